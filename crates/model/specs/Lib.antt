@@ -1,4 +1,5 @@
 pub mod Numbers
+pub mod Digits
 pub mod Contents
 pub mod Policies
 pub mod Records
