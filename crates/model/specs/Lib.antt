@@ -2,3 +2,10 @@ pub mod Numbers
 pub mod Contents
 pub mod Policies
 pub mod Records
+pub mod Commands
+pub mod Acts
+pub mod Book
+pub mod World
+pub mod Calls
+pub mod Past
+pub mod Promise
