@@ -13,21 +13,22 @@ use Rattle.std.specs.declared.option.Option.{Option}
 use Rattle.std.specs.declared.option.Option.the-variants.{Some, None}
 use Rattle.model.specs.declared.command.Command.{Command}
 use Rattle.model.specs.declared.run.Entry.{Entry}
-use Rattle.model.specs.declared.run.Stop.{Stop}
 use Rattle.model.specs.declared.run.Hazard.{Hazard}
 use Rattle.model.specs.declared.run.Fault.the-variants.{TooLong}
+use Rattle.model.specs.declared.run.Stop.{Stop}
 use Rattle.model.specs.Contents.{Content, Pool, count, holds, content, told, known, given, put}
-use Rattle.model.specs.Commands.{Want, reads, writes, bad, wants, unfit}
-use Rattle.model.specs.Acts.{Stand, goes, stops, has-read, ended, met, at, tested, noted, written, writing, attempt, act}
+use Rattle.model.specs.Commands.{Want, reads, writes, bad, wants, is-bad}
+use Rattle.model.specs.Hazards.{has-read, ended, hazard}
+use Rattle.model.specs.Acts.{State, goes, stops, stop-at, tested, noted, written, writing, attempt, act}
 use Rattle.model.proofs.Trace as Trace
-use Rattle.model.proofs.Trace.{Act, rd, wr, Trace, Start, line, mine, seen, now, clash, pooled, Ok}
+use Rattle.model.proofs.Trace.{Event, rd, wr, Trace, Start, line, mine, seen, now, clash, pooled, Ok}
 use Rattle.model.proofs.Pools.{Grows, holds-parts, holds-from, grows-holds, grows-put, Given, given-is, roomy, room-of}
-use Rattle.model.proofs.Entries.{doing, trace, trace-more, Numbered, numbered-more, numbered-grown, trace-grown, seen-trace, ended-trace, clash-trace, clashes, met-quiet, quiet-met}
+use Rattle.model.proofs.Entries.{event, trace, trace-more, Numbered, numbered-more, numbered-grown, trace-grown, seen-trace, ended-trace, clash-trace, clashes, met-quiet, quiet-met}
 
 abbrev pub start : List Command → List ℕ → Pool → Start
 start cs fs p = record { lines = length cs; want = wants cs; width = length fs; files = λ f. told p (getD fs f 0); pool = p .contents; places = p .places; bytes = p .room }
 
-pub record Bridged (w : Start) (s : Stand) (t : Trace) : Type 0 where
+pub record Bridged (w : Start) (s : State) (t : Trace) : Type 0 where
   pub traced : trace (s .pool) [] (s .entries) ≡ t
   pub pools : pooled w t ≡ s .pool .contents
   pub places : w .places ≡ s .pool .places
@@ -37,10 +38,10 @@ pub record Bridged (w : Start) (s : Stand) (t : Trace) : Type 0 where
   pub filed : (f : ℕ) → getD (s .files) f 0 ≤ count (s .pool)
   pub numbered : Numbered (s .pool) (s .entries)
 
-pub goes-is : {s r : Stand} → goes s ≡ goes r → s ≡ r
+pub goes-is : {s r : State} → goes s ≡ goes r → s ≡ r
 goes-is e = cc
 
-pub not-goes : {A : Type 0} {s r : Stand} {y : Stop} → stops s y ≡ goes r → A
+pub not-goes : {A : Type 0} {s r : State} {y : Stop} → stops s y ≡ goes r → A
 not-goes e = let z : _≡_ {A = ℕ} 0 1 = cc in absurd (omega arith)
 
 set-get : (fs : List ℕ) (f g k : ℕ) → getD (set fs f k) g 0 ≡ cond (eqb g f && ltb f (length fs)) k (getD fs g 0)
@@ -76,7 +77,7 @@ module _ (cs : List Command) (fs : List ℕ) (p₀ : Pool) where
   abbrev w : Start
   w = start cs fs p₀
 
-  module _ (s : Stand) (t : Trace) (b : Bridged w s t) where
+  module _ (s : State) (t : Trace) (b : Bridged w s t) where
     pub seen-is : (l : ℕ) → seen (mine l t) ≡ has-read (s .pool) l (s .entries)
     seen-is l = ap (λ u. seen (mine l u)) (sym (b .traced)) ∙ seen-trace (s .pool) l [] (s .entries)
 
@@ -89,11 +90,11 @@ module _ (cs : List Command) (fs : List ℕ) (p₀ : Pool) where
     reads-it l f = record { line = l; wrote = false; file = f; number = getD (s .files) f 0 }
 
     read-clash : (l f : ℕ) → clash (rd l f (content (s .pool) (getD (s .files) f 0))) t ≡ clashes (reads-it l f) (s .entries)
-    read-clash l f = ap (clash (doing (s .pool) (reads-it l f))) (sym (b .traced)) ∙ clash-trace (s .pool) (reads-it l f) [] (s .entries)
+    read-clash l f = ap (clash (event (s .pool) (reads-it l f))) (sym (b .traced)) ∙ clash-trace (s .pool) (reads-it l f) [] (s .entries)
 
     read-bridged : (l f : ℕ) → holds (s .pool) (getD (s .files) f 0) ≡ true → Bridged w (noted (reads-it l f) s) (rd l f (content (s .pool) (getD (s .files) f 0)) ∷ t)
     read-bridged l f h = record {
-      traced = trace-more (s .pool) [] (s .entries) (reads-it l f) ∙ ap (λ u. doing (s .pool) (reads-it l f) ∷ u) (b .traced);
+      traced = trace-more (s .pool) [] (s .entries) (reads-it l f) ∙ ap (λ u. event (s .pool) (reads-it l f) ∷ u) (b .traced);
       pools = b .pools;
       places = b .places;
       bytes = b .bytes;
@@ -115,14 +116,14 @@ module _ (cs : List Command) (fs : List ℕ) (p₀ : Pool) where
       gave : Given (s .pool) x (suc n)
       gave = given-is (s .pool) x n g
 
-      doing-is : doing p′ writes-it ≡ wr l f x
+      doing-is : event p′ writes-it ≡ wr l f x
       doing-is = ap (wr l f) (gave .is)
 
       traced-is : trace p′ [] (s .entries) ≡ t
       traced-is = trace-grown (s .pool) p′ (grows-put (s .pool) x) [] (s .entries) (b .numbered) ∙ b .traced
 
       write-clash : clash (wr l f x) t ≡ clashes writes-it (s .entries)
-      write-clash = ap (λ u. clash u t) (sym doing-is) ∙ ap (clash (doing p′ writes-it)) (sym traced-is) ∙ clash-trace p′ writes-it [] (s .entries)
+      write-clash = ap (λ u. clash u t) (sym doing-is) ∙ ap (clash (event p′ writes-it)) (sym traced-is) ∙ clash-trace p′ writes-it [] (s .entries)
 
       holds-it : holds p′ (suc n) ≡ true
       holds-it = holds-from p′ (suc n) (gave .low) (gave .high)
@@ -155,8 +156,8 @@ module _ (cs : List Command) (fs : List ℕ) (p₀ : Pool) where
 
     -- FROM NUMBERS TO CONTENTS
 
-    pub record Acted (l : ℕ) (r : Stand) : Type 0 where
-      pub did : Act
+    pub record Acted (l : ℕ) (r : State) : Type 0 where
+      pub did : Event
       pub of : line did ≡ l
       pub ok : Ok w t did
       pub next : Bridged w r (did ∷ t)
@@ -164,10 +165,10 @@ module _ (cs : List Command) (fs : List ℕ) (p₀ : Pool) where
     abbrev xs-of : ℕ → List Content
     xs-of l = has-read (s .pool) l (s .entries)
 
-    module _ (l : ℕ) (r : Stand) (lt : l < length cs) (still : ended l (s .entries) ≡ false) where
+    module _ (l : ℕ) (r : State) (lt : l < length cs) (still : ended l (s .entries) ≡ false) where
       read-acted :
-          (f : ℕ) → wants cs l (xs-of l) ≡ reads f → (m : Option Hazard) → met (reads-it l f) (s .entries) ≡ m →
-          (z : Bool) → eqb (getD (s .files) f 0) 0 ≡ z → (u : Bool) → unfit (wants cs l (xs-of l ++ content (s .pool) (getD (s .files) f 0) ∷ [])) ≡ u →
+          (f : ℕ) → wants cs l (xs-of l) ≡ reads f → (m : Option Hazard) → hazard (reads-it l f) (s .entries) ≡ m →
+          (z : Bool) → eqb (getD (s .files) f 0) 0 ≡ z → (u : Bool) → is-bad (wants cs l (xs-of l ++ content (s .pool) (getD (s .files) f 0) ∷ [])) ≡ u →
           (x y : Stop) → tested l (noted (reads-it l f) s) m (cond z (stops (noted (reads-it l f) s) x) (cond u (stops (noted (reads-it l f) s) y) (goes (noted (reads-it l f) s)))) ≡ goes r →
           Acted l r
       read-acted f d (Some h) m z zs u us x y k = not-goes k
@@ -183,7 +184,7 @@ module _ (cs : List Command) (fs : List ℕ) (p₀ : Pool) where
               inside = lt;
               still = ended-is l ∙ still;
               wants = ap (wants cs l) (seen-is l) ∙ d;
-              fine = not-from-false _ (ap (λ ys. unfit (wants cs l (ys ++ content (s .pool) (getD (s .files) f 0) ∷ []))) (seen-is l) ∙ us);
+              fine = not-from-false _ (ap (λ ys. is-bad (wants cs l (ys ++ content (s .pool) (getD (s .files) f 0) ∷ []))) (seen-is l) ∙ us);
               clear = read-clash l f ∙ met-quiet (reads-it l f) (s .entries) m;
               sees = b .files f ∙ told-holds (s .pool) _ h;
             };
@@ -194,9 +195,9 @@ module _ (cs : List Command) (fs : List ℕ) (p₀ : Pool) where
           (f : ℕ) (x : Content) → wants cs l (xs-of l) ≡ writes f x → leb (length x) 4096 ≡ true → (n : ℕ) → given (s .pool) x ≡ n →
           writing l s f (put (s .pool) x) n ≡ goes r → Acted l r
       write-acted f x d small zero g k = not-goes k
-      write-acted f x d small (suc n) g k = by (met (writes-it l f x n g) (s .entries)) refl k
+      write-acted f x d small (suc n) g k = by (hazard (writes-it l f x n g) (s .entries)) refl k
         where
-          by : (m : Option Hazard) → met (writes-it l f x n g) (s .entries) ≡ m → tested l (written (writes-it l f x n g) (put (s .pool) x) s) m (goes (written (writes-it l f x n g) (put (s .pool) x) s)) ≡ goes r → Acted l r
+          by : (m : Option Hazard) → hazard (writes-it l f x n g) (s .entries) ≡ m → tested l (written (writes-it l f x n g) (put (s .pool) x) s) m (goes (written (writes-it l f x n g) (put (s .pool) x) s)) ≡ goes r → Acted l r
           by (Some h) m j = not-goes j
           by None m j =
               let room = room-of w (s .pool) x (b .places) (b .bytes) small n g in
@@ -214,7 +215,7 @@ module _ (cs : List Command) (fs : List ℕ) (p₀ : Pool) where
                 next = write-bridged l f x n g (room .1);
               })
 
-      pub acted : act cs l s ≡ goes r → Acted l r
+      pub acted : act (wants cs l) l s ≡ goes r → Acted l r
       acted e = by (wants cs l (xs-of l)) refl e
         where
           by : (q : Want) → wants cs l (xs-of l) ≡ q → attempt (wants cs l) l s (xs-of l) q ≡ goes r → Acted l r
@@ -228,21 +229,21 @@ module _ (cs : List Command) (fs : List ℕ) (p₀ : Pool) where
 
     -- AND BACK
 
-    pub record Acts (a : Act) : Type 0 where
-      pub after : Stand
-      pub does : act cs (line a) s ≡ goes after
+    pub record Acts (a : Event) : Type 0 where
+      pub after : State
+      pub does : act (wants cs (line a)) (line a) s ≡ goes after
       pub still : ended (line a) (s .entries) ≡ false
       pub next : Bridged w after (a ∷ t)
 
-    pub acts : (a : Act) → Ok w t a → Acts a
+    pub acts : (a : Event) → Ok w t a → Acts a
     acts (rd l f x) o =
         let known = told-some (s .pool) (getD (s .files) f 0) x (sym (b .files f) ∙ o .sees) in
         let fits = holds-parts (s .pool) (getD (s .files) f 0) (known .0) in
         let d : wants cs l (xs-of l) ≡ reads f = ap (wants cs l) (sym (seen-is l)) ∙ o .wants in
         let here : eqb (getD (s .files) f 0) 0 ≡ false = ne-eqb _ _ (λ e. omega (arith, fits .0)) in
-        let u : unfit (wants cs l (xs-of l ++ content (s .pool) (getD (s .files) f 0) ∷ [])) ≡ false =
-        ap (λ y. unfit (wants cs l (xs-of l ++ y ∷ []))) (known .1) ∙ ap (λ ys. unfit (wants cs l (ys ++ x ∷ []))) (sym (seen-is l)) ∙ not-true _ (o .fine) in
-        let quiet : met (reads-it l f) (s .entries) ≡ None = quiet-met (reads-it l f) (s .entries) (sym (read-clash l f) ∙ ap (λ y. clash (rd l f y) t) (known .1) ∙ o .clear) in
+        let u : is-bad (wants cs l (xs-of l ++ content (s .pool) (getD (s .files) f 0) ∷ [])) ≡ false =
+        ap (λ y. is-bad (wants cs l (xs-of l ++ y ∷ []))) (known .1) ∙ ap (λ ys. is-bad (wants cs l (ys ++ x ∷ []))) (sym (seen-is l)) ∙ not-true _ (o .fine) in
+        let quiet : hazard (reads-it l f) (s .entries) ≡ None = quiet-met (reads-it l f) (s .entries) (sym (read-clash l f) ∙ ap (λ y. clash (rd l f y) t) (known .1) ∙ o .clear) in
         record {
           after = noted (reads-it l f) s;
           does = rw (d, known-is (s .pool) (getD (s .files) f 0) (b .filed f), quiet, here, u);
@@ -254,12 +255,12 @@ module _ (cs : List Command) (fs : List ℕ) (p₀ : Pool) where
         let n = room .0 in
         let g = room .1 in
         let d : wants cs l (xs-of l) ≡ writes f x = ap (wants cs l) (sym (seen-is l)) ∙ o .wants in
-        let quiet : met (writes-it l f x n g) (s .entries) ≡ None = quiet-met (writes-it l f x n g) (s .entries) (sym (write-clash l f x n g) ∙ o .clear) in
+        let quiet : hazard (writes-it l f x n g) (s .entries) ≡ None = quiet-met (writes-it l f x n g) (s .entries) (sym (write-clash l f x n g) ∙ o .clear) in
         record {
           after = written (writes-it l f x n g) (put (s .pool) x) s;
           does =
               ap (attempt (wants cs l) l s (xs-of l)) d ∙
-              ap (λ c. cond c (writing l s f (put (s .pool) x) (given (s .pool) x)) (stops s (at l TooLong))) (o .sees .0) ∙
+              ap (λ c. cond c (writing l s f (put (s .pool) x) (given (s .pool) x)) (stops s (stop-at l TooLong))) (o .sees .0) ∙
               ap (writing l s f (put (s .pool) x)) g ∙
               ap (λ m. tested l (written (writes-it l f x n g) (put (s .pool) x) s) m (goes (written (writes-it l f x n g) (put (s .pool) x) s))) quiet;
           still = sym (ended-is l) ∙ o .still;

@@ -12,8 +12,10 @@ use Rattle.std.specs.declared.option.Option.the-variants.{Some, None}
 use Rattle.model.specs.declared.command.Kind.{Kind}
 use Rattle.model.specs.declared.command.Kind.the-variants.{Copy, Join, Gather, Choose, Tally, Check}
 use Rattle.model.specs.declared.command.Command.{Command}
+use Rattle.model.specs.Digits.{digit}
+use Rattle.model.specs.Digits.{file-number}
 use Rattle.model.specs.Contents.{Content}
-use Rattle.model.specs.Commands.{reads, writes, bad, digit, pair, pre, pairs, listed, turn, gathers, goes-on, wants}
+use Rattle.model.specs.Commands.{reads, writes, bad, with-file, pairs, listed, next-listed, gathers, next, wants}
 
 unlike-writes : (g f : ℕ) (x : Content) → writes g x ≡ reads f → ⊥
 unlike-writes g f x e = let z : _≡_ {A = ℕ} 0 1 = cc in omega arith
@@ -28,23 +30,20 @@ Halves n o = (fs : List ℕ) → o ≡ Some fs → length fs + length fs ≤ n
 unlike-none : (n : ℕ) → Halves n None
 unlike-none n fs e = let z : _≡_ {A = ℕ} 0 1 = cc in absurd (omega arith)
 
-halves-pre : (n f : ℕ) (o : Option (List ℕ)) → Halves n o → Halves (suc (suc n)) (pre f o)
-halves-pre n f None h fs e = unlike-none _ fs e
-halves-pre n f (Some gs) h fs e = let same : f ∷ gs ≡ fs = cc in rw (← same) (omega (arith, h gs refl))
+halves-with : (n : ℕ) (o : Option ℕ) (r : Option (List ℕ)) → Halves n r → Halves (suc (suc n)) (with-file o r)
+halves-with n None r h fs e = unlike-none _ fs e
+halves-with n (Some f) None h fs e = unlike-none _ fs e
+halves-with n (Some f) (Some gs) h fs e = let same : f ∷ gs ≡ fs = cc in rw (← same) (omega (arith, h gs refl))
 
 halves : (l : Content) → Halves (length l) (pairs l)
 halves [] fs e = let same : [] ≡ fs = cc in rw (← same) (omega arith)
-halves (d ∷ []) fs e = unlike-none _ fs e
-halves (d ∷ c ∷ l) fs e = by (digit d && digit c && ltb (pair d c) 64) (halves l) fs e
-  where
-    by : (b : Bool) → Halves (length l) (pairs l) → Halves (suc (suc (length l))) (cond b (pre (pair d c) (pairs l)) None)
-    by true h = halves-pre (length l) (pair d c) (pairs l) h
-    by false h = unlike-none _
+halves (t ∷ []) fs e = unlike-none _ fs e
+halves (t ∷ u ∷ l) fs e = halves-with (length l) (file-number (t ∷ u ∷ [])) (pairs l) (halves l) fs e
 
-turn-brief : (b f : ℕ) (xs : List Content) (fs : List ℕ) → turn b xs (drop (length xs) fs) ≡ reads f → length xs < length fs
+turn-brief : (b f : ℕ) (xs : List Content) (fs : List ℕ) → next-listed b xs (drop (length xs) fs) ≡ reads f → length xs < length fs
 turn-brief b f xs fs e = by (drop (length xs) fs) refl e
   where
-    by : (r : List ℕ) → drop (length xs) fs ≡ r → turn b xs r ≡ reads f → length xs < length fs
+    by : (r : List ℕ) → drop (length xs) fs ≡ r → next-listed b xs r ≡ reads f → length xs < length fs
     by [] d k = absurd (unlike-writes _ _ _ k)
     by (g ∷ gs) d k = omega (arith, sym (length-drop (length xs) fs) ∙ ap length d)
 
@@ -56,7 +55,7 @@ gather-brief b f l xs e = by (leb (length l) 30) refl (pairs l) refl e
     by true d None i k = absurd (unlike-bad f k)
     by true d (Some fs) i k = omega (arith, leb-true (length l) 30 d, halves l fs i, turn-brief b f xs fs k)
 
-kind-brief : (k : Kind) (a b c d f : ℕ) (xs : List Content) → goes-on k a b c d xs ≡ reads f → length xs < 16
+kind-brief : (k : Kind) (a b c d f : ℕ) (xs : List Content) → next k a b c d xs ≡ reads f → length xs < 16
 kind-brief Copy a b c d f [] e = omega arith
 kind-brief Copy a b c d f (x ∷ xs) e = absurd (unlike-writes _ _ _ e)
 kind-brief Join a b c d f [] e = omega arith

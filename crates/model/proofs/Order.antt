@@ -7,16 +7,18 @@ use native.Mathlib.Omega.{arith}
 use lib.ListN.{length, getD}
 use Rattle.model.specs.declared.command.Command.{Command}
 use Rattle.model.specs.Contents.{Pool, count}
-use Rattle.model.specs.Acts.{Stand, ended, script, in-order}
-use Rattle.model.specs.World.{World, stand}
-use Rattle.model.specs.Promise.{deeds, Agrees}
+use Rattle.model.specs.Hazards.{ended}
+use Rattle.model.specs.Acts.{State}
+use Rattle.model.specs.Order.{script, in-order}
+use Rattle.model.specs.World.{World, state}
+use Rattle.model.specs.Promise.{acts-of, Agrees}
 use Rattle.model.proofs.Trace as Trace
 use Rattle.model.proofs.Trace.{Trace, Start, line, mine, ends, Steps}
 use Rattle.model.proofs.Swap.{mine-other}
 use Rattle.model.proofs.Sort.{sort, Below, Rising, below-more, sort-rising, sorted}
-use Rattle.model.proofs.Entries.{dealt, deeds-trace}
+use Rattle.model.proofs.Entries.{acts-in, acts-trace}
 use Rattle.model.proofs.Bridge.{start, Bridged, acts, ended-is}
-use Rattle.model.proofs.Script.{Done, all-done, act-goes}
+use Rattle.model.proofs.Script.{upto, script-is, Done, all-done, act-goes}
 
 abbrev Ended : ℕ → Trace → Type 0
 Ended l t = (m : ℕ) → m < l → Trace.ended m t ≡ true
@@ -40,7 +42,7 @@ module _ (cs : List Command) (fs : List ℕ) (p : Pool) (filed : (f : ℕ) → g
   abbrev w : Start
   w = start cs fs p
 
-  abbrev s₀ : Stand
+  abbrev s₀ : State
   s₀ = record { files = fs; pool = p; entries = [] }
 
   pub bridged-new : Bridged w s₀ []
@@ -48,9 +50,9 @@ module _ (cs : List Command) (fs : List ℕ) (p : Pool) (filed : (f : ℕ) → g
 
   -- a trace of lowest lines, made again on numbers, is on the way of script order
   record Replay (t : Trace) : Type 0 where
-    at : Stand
+    at : State
     bridge : Bridged w at t
-    way : script cs (length cs) s₀ ≡ script cs (length cs) at
+    way : upto cs (length cs) s₀ ≡ upto cs (length cs) at
 
   replay : (t : Trace) → Steps w t → Low t → Replay t
   replay [] r h = record { at = s₀; bridge = bridged-new; way = refl }
@@ -64,17 +66,17 @@ module _ (cs : List Command) (fs : List ℕ) (p : Pool) (filed : (f : ℕ) → g
         way = was .way ∙ act-goes cs (line a) (was .at) done (length cs) (r .0 .inside) (made .still) (made .after) (made .does);
       }
 
-  dealt-is : (s : Stand) (t : Trace) → Bridged w s t → (l : ℕ) → deeds (s .pool) l (s .entries) ≡ dealt (mine l t)
-  dealt-is s t b l = sym (ap (λ u. dealt (mine l u)) (sym (b .traced)) ∙ deeds-trace (s .pool) l [] (s .entries) (b .numbered))
+  acts-is : (s : State) (t : Trace) → Bridged w s t → (l : ℕ) → acts-of (s .pool) l (s .entries) ≡ acts-in (mine l t)
+  acts-is s t b l = sym (ap (λ u. acts-in (mine l u)) (sym (b .traced)) ∙ acts-trace (s .pool) l [] (s .entries) (b .numbered))
 
-  pub agrees : (v : World) (t : Trace) → Bridged w (stand v) t → Steps w t → Done cs (length cs) (stand v) → Agrees v (in-order cs fs p)
+  pub agrees : (v : World) (t : Trace) → Bridged w (state v) t → Steps w t → Done cs (length cs) (state v) → Agrees v (in-order cs fs p)
   agrees v t b r done =
       let both = sorted w t r in
-      let over : Ended (length cs) (sort t) = λ l lt. ap ends (both .1 .acts l) ∙ ended-is cs fs p (stand v) t b l ∙ done l lt in
+      let over : Ended (length cs) (sort t) = λ l lt. ap ends (both .1 .acts l) ∙ ended-is cs fs p (state v) t b l ∙ done l lt in
       let low = lowest (length cs) (sort t) (sort-rising t) (below-more _ _ (sort t) (omega arith) (inside w (sort t) (both .0))) over in
       let end = replay (sort t) (both .0) low in
       let finish : Done cs (length cs) (end .at) = λ m lt. sym (ended-is cs fs p (end .at) (sort t) (end .bridge) m) ∙ over m lt in
-      subst (Agrees v) (sym (end .way ∙ all-done cs (length cs) (end .at) finish)) (
+      subst (Agrees v) (sym (script-is cs s₀ ∙ end .way ∙ all-done cs (length cs) (end .at) finish)) (
         λ f. sym (b .files f) ∙ sym (both .1 .files f) ∙ end .bridge .files f,
-        λ l. dealt-is (stand v) t b l ∙ ap dealt (sym (both .1 .acts l)) ∙ sym (dealt-is (end .at) (sort t) (end .bridge) l),
+        λ l. acts-is (state v) t b l ∙ ap acts-in (sym (both .1 .acts l)) ∙ sym (acts-is (end .at) (sort t) (end .bridge) l),
       )

@@ -13,32 +13,31 @@ use Rattle.model.specs.declared.command.Command.{Command}
 use Rattle.model.specs.declared.run.Entry.{Entry}
 use Rattle.model.specs.Contents.{Pool}
 use Rattle.model.specs.Commands.{reads, wants}
-use Rattle.model.specs.Acts.{ended}
-use Rattle.model.specs.Book.{fresh}
-use Rattle.model.specs.World.{stand}
+use Rattle.model.specs.Hazards.{ended, fresh}
+use Rattle.model.specs.World.{state, lines}
 use Rattle.model.specs.Past.{found}
 use Rattle.model.specs.Promise.{Log-has-room}
 use Rattle.model.proofs.Trace as Trace
-use Rattle.model.proofs.Trace.{Act, rd, wr, Trace, Start, line, mine, seen, ends, Ok, Steps}
+use Rattle.model.proofs.Trace.{Event, rd, wr, Trace, Start, line, mine, seen, ends, Ok, Steps}
 use Rattle.model.proofs.Swap.{mine-other}
 use Rattle.model.proofs.Sort.{Below}
-use Rattle.model.proofs.Entries.{doing, trace}
+use Rattle.model.proofs.Entries.{event, trace}
 use Rattle.model.proofs.Keep.{mine-doing}
 use Rattle.model.proofs.Brief.{brief}
 use Rattle.model.proofs.Bridge.{start, ended-is}
-use Rattle.model.proofs.Skip.{honest-grown, skips-at-is, skips-few}
+use Rattle.model.proofs.Skip.{skips-at-is, skips-few}
 use Rattle.model.proofs.Order.{inside}
-use Rattle.model.proofs.Sound.{sound, left-parts, base-grows}
+use Rattle.model.proofs.Sound.{sound, left-parts, honest-now}
 
 seen-length : (m : Trace) → ends m ≡ false → length (seen m) ≡ length m
 seen-length [] e = refl
 seen-length (rd l f x ∷ m) e = rw (length-append (seen m) (x ∷ [])) (let h = seen-length m e in omega arith)
 seen-length (wr l f x ∷ m) e = absurd (both-ways true e refl)
 
-ended-less : (l : ℕ) (a : Act) (t : Trace) → Trace.ended l (a ∷ t) ≡ false → Trace.ended l t ≡ false
+ended-less : (l : ℕ) (a : Event) (t : Trace) → Trace.ended l (a ∷ t) ≡ false → Trace.ended l t ≡ false
 ended-less l a t = by (eqb l (line a)) a
   where
-    by : (p : Bool) (b : Act) → ends (cond p (b ∷ mine l t) (mine l t)) ≡ false → Trace.ended l t ≡ false
+    by : (p : Bool) (b : Event) → ends (cond p (b ∷ mine l t) (mine l t)) ≡ false → Trace.ended l t ≡ false
     by true (rd k f x) e = e
     by true (wr k f x) e = absurd (both-ways true e refl)
     by false b e = e
@@ -52,7 +51,7 @@ module _ (cs : List Command) (fs : List ℕ) (p : Pool) where
   short [] r l e = omega arith
   short (a ∷ t) r l e = by (eqb l (line a)) refl a refl (r .0) (short t (r .1) l (ended-less l a t e)) e
     where
-      by : (q : Bool) → eqb l (line a) ≡ q → (b : Act) → a ≡ b → Ok w t b → length (mine l t) ≤ 16 → ends (cond q (b ∷ mine l t) (mine l t)) ≡ false → length (cond q (b ∷ mine l t) (mine l t)) ≤ 16
+      by : (q : Bool) → eqb l (line a) ≡ q → (b : Event) → a ≡ b → Ok w t b → length (mine l t) ≤ 16 → ends (cond q (b ∷ mine l t) (mine l t)) ≡ false → length (cond q (b ∷ mine l t) (mine l t)) ≤ 16
       by false d b s o ih k = ih
       by true d (wr m f x) s o ih k = absurd (both-ways true k refl)
       by true d (rd m f x) s o ih k =
@@ -73,11 +72,11 @@ abbrev total : ℕ → Trace → ℕ
 total zero t = 0
 total (suc n) t = length (mine n t) + total n t
 
-total-other : (n : ℕ) (a : Act) (t : Trace) → n ≤ line a → total n (a ∷ t) ≡ total n t
+total-other : (n : ℕ) (a : Event) (t : Trace) → n ≤ line a → total n (a ∷ t) ≡ total n t
 total-other zero a t h = refl
 total-other (suc n) a t h = rw (mine-other n a t (λ e. omega arith), total-other n a t (omega arith))
 
-total-own : (n : ℕ) (a : Act) (t : Trace) → line a < n → total n (a ∷ t) ≡ suc (total n t)
+total-own : (n : ℕ) (a : Event) (t : Trace) → line a < n → total n (a ∷ t) ≡ suc (total n t)
 total-own zero a t h = absurd (omega arith)
 total-own (suc n) a t h = ⊎-elim
     (λ (lt : line a < n). rw (mine-other n a t (λ e. omega arith), total-own n a t lt) (omega arith))
@@ -106,23 +105,23 @@ total-room (suc n) l j t h lt r = ⊎-elim
 
 trace-length : (p : Pool) (t : Trace) (es : List Entry) → length (trace p t es) ≡ length t + length es
 trace-length p t [] = omega arith
-trace-length p t (e ∷ es) = let h = trace-length p (doing p e ∷ t) es in omega arith
+trace-length p t (e ∷ es) = let h = trace-length p (event p e ∷ t) es in omega arith
 
 mine-fresh : (p : Pool) (l : ℕ) (t : Trace) (es : List Entry) → fresh l es ≡ true → mine l (trace p t es) ≡ mine l t
 mine-fresh p l t [] h = refl
 mine-fresh p l t (e ∷ es) h =
     let b = and-parts (not (eqb l (e .line))) (fresh l es) h in
-    mine-fresh p l (doing p e ∷ t) es (b .1) ∙ mine-doing p (wants [] l) l e t ∙ rw (not-true _ (b .0))
+    mine-fresh p l (event p e ∷ t) es (b .1) ∙ mine-doing p (wants [] l) l e t ∙ rw (not-true _ (b .0))
 
 pub log-has-room : Log-has-room
-log-has-room w p r i going l m =
+log-has-room w p i going l m =
     let b = found p in
-    let o = sound p .open-run r i in
+    let o = sound p .open-run i in
     let g = o .going going in
     let t = g .acts in
-    let parts = left-parts (length (r .commands)) (w .entries) l m in
+    let parts = left-parts (lines w) (w .entries) l m in
     let lt : l < length (b .commands) = rw (o .commands) at (parts .0) in
-    let still : Trace.ended l t ≡ false = ended-is (b .commands) (b .files) (b .pool) (stand w) t (g .bridge) l ∙ parts .1 in
+    let still : Trace.ended l t ≡ false = ended-is (b .commands) (b .files) (b .pool) (state w) t (g .bridge) l ∙ parts .1 in
     let few = short (b .commands) (b .files) (b .pool) t (g .steps) l still in
     let all = most (b .commands) (b .files) (b .pool) t (g .steps) in
     let long : length t ≡ length (w .entries) = ap length (sym (g .bridge .traced)) ∙ trace-length (w .pool) [] (w .entries) ∙ (omega arith) in
@@ -130,9 +129,8 @@ log-has-room w p r i going l m =
     let one = total-room (length (b .commands)) l 1 t all lt (omega arith) in (
       omega (arith, one, sum, long, o .log-room),
       λ q e.
-          let honest = honest-grown (b .pool) (w .pool) (base-grows (b .pool) (w .pool) (o .base)) (w .records) (o .honest) in
-          let s = skips-at-is (w .pool) (w .records) honest l (stand w) q (r .commands) l e in
-          let n = skips-few (r .commands) l (stand w) q (w .pool) s in
+          let s = skips-at-is (w .pool) (w .records) (honest-now b w o) l (state w) q (w .notes .commands) l e in
+          let n = skips-few (w .notes .commands) l (state w) q (w .pool) s in
           let none : mine l t ≡ [] = ap (mine l) (sym (g .bridge .traced)) ∙ mine-fresh (w .pool) l [] (w .entries) (s .first) in
           let free = total-room (length (b .commands)) l (length (q .reads) + 1) t all lt (omega (arith, ap length none, n)) in
           omega (arith, free, sum, long, o .log-room),

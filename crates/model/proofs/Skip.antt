@@ -12,21 +12,24 @@ use Rattle.std.proofs.shelf.Lists.{length-append}
 use Rattle.std.proofs.shelf.Tests.{and-parts, and-from, le-leb, eqb-true, eq-eqb, ne-eqb, not-true, true≢false}
 use Rattle.std.specs.declared.option.Option.{Option}
 use Rattle.std.specs.declared.option.Option.the-variants.{Some, None}
-use Rattle.model.specs.declared.command.Kind.{Kind}
-use Rattle.model.specs.declared.command.Kind.the-variants.{Copy, Join, Gather, Choose, Tally, Check}
 use Rattle.model.specs.declared.command.Command.{Command}
 use Rattle.model.specs.declared.run.Entry.{Entry}
 use Rattle.model.specs.declared.run.Hazard.{Hazard}
 use Rattle.model.specs.declared.run.Fault.the-variants.{TooLong, Absent, BadList}
 use Rattle.model.specs.declared.record.Standing.the-variants.{Hint, Own, Struck}
+use Rattle.model.specs.declared.record.Use.{Use}
 use Rattle.model.specs.Contents.{Content, Pool, holds, content, known, mem, given, put}
-use Rattle.model.specs.Numbers.{kind-number}
-use Rattle.model.specs.Commands.{Want, reads, writes, bad, want, wants, unfit, same-command}
-use Rattle.model.specs.Acts.{Stand, Turn, goes, stops, then, has-read, ended, met, at, tested, noted, reading, written, writing, attempt, act, carry}
-use Rattle.model.specs.Book.{Use, Record, own, asks, makes, follows, true-in, matches, about, fresh, usable, skips, entry, skip}
-use Rattle.model.specs.Calls.{skips-at}
+use Rattle.model.specs.Commands.{Want, reads, writes, bad, want, wants, is-bad}
+use Rattle.model.specs.Hazards.{has-read, ended, hazard, fresh}
+use Rattle.model.specs.Acts.{State, Outcome, goes, stops, then, stop-at, tested, noted, reading, written, writing, attempt, act}
+use Rattle.model.specs.Order.{carry}
+use Rattle.model.specs.Records.{Record}
+use Rattle.model.specs.Truth.{asks, makes, follows, true-in}
+use Rattle.model.specs.Book.{same-command, own, record-of}
+use Rattle.model.specs.Step.{match, all-held, usable, skips, entry, skip, skips-at}
 use Rattle.model.specs.Promise.{Honest}
 use Rattle.model.proofs.Brief.{brief}
+use Rattle.model.proofs.Keys.{same-is}
 use Rattle.model.proofs.Pools.{Grows, holds-parts, grows-holds, Distinct, mem-at, find-at}
 use Rattle.model.proofs.Script.{has-read-more, ended-more}
 
@@ -48,7 +51,7 @@ makes-is (writes g x) f y h =
     cc
 makes-is bad f y h = absurd (true≢false (sym h))
 
-fit : (p : Pool) (k : List Content → Want) (xs : List Content) (rs : List Use) (u : Use) → follows p k xs rs u ≡ true → unfit (k xs) ≡ false
+fit : (p : Pool) (k : List Content → Want) (xs : List Content) (rs : List Use) (u : Use) → follows p k xs rs u ≡ true → is-bad (k xs) ≡ false
 fit p k xs [] u h = rw (makes-is (k xs) (u .file) _ (and-parts (holds p (u .number)) _ h .1))
 fit p k xs (r ∷ rs) u h = rw (asks-is (k xs) (r .file) (and-parts (asks (k xs) (r .file)) _ (and-parts (holds p (r .number)) _ h .1) .0))
 
@@ -85,7 +88,7 @@ module _ (cs : List Command) (l : ℕ) where
   own-line = eq-eqb l l refl
 
   -- a write of a content that is in the pool, and the end of its line
-  module _ (s : Stand) (f n : ℕ) (d : Distinct (s .pool .contents)) (short : Short (s .pool .contents)) (inside : holds (s .pool) n ≡ true) where
+  module _ (s : State) (f n : ℕ) (d : Distinct (s .pool .contents)) (short : Short (s .pool .contents)) (inside : holds (s .pool) n ≡ true) where
     abbrev x : Content
     x = content (s .pool) n
 
@@ -104,35 +107,35 @@ module _ (cs : List Command) (l : ℕ) where
     gives : given (s .pool) x ≡ suc (n - 1)
     gives = rw is-mem (find-at (s .pool .contents) (n - 1) d low)
 
-    writes-again : attempt (wants cs l) l s (has-read (s .pool) l (s .entries)) (writes f x) ≡ tested l (written (record { line = l; wrote = true; file = f; number = n }) (s .pool) s) (met (record { line = l; wrote = true; file = f; number = n }) (s .entries)) (goes (written (record { line = l; wrote = true; file = f; number = n }) (s .pool) s))
+    writes-again : attempt (wants cs l) l s (has-read (s .pool) l (s .entries)) (writes f x) ≡ tested l (written (record { line = l; wrote = true; file = f; number = n }) (s .pool) s) (hazard (record { line = l; wrote = true; file = f; number = n }) (s .entries)) (goes (written (record { line = l; wrote = true; file = f; number = n }) (s .pool) s))
     writes-again =
-        ap (λ c. cond c (writing l s f (put (s .pool) x) (given (s .pool) x)) (stops s (at l TooLong))) (le-leb _ _ (short (n - 1) low)) ∙
+        ap (λ c. cond c (writing l s f (put (s .pool) x) (given (s .pool) x)) (stops s (stop-at l TooLong))) (le-leb _ _ (short (n - 1) low)) ∙
         ap (λ q. writing l s f q (given (s .pool) x)) put-same ∙
         ap (writing l s f (s .pool)) gives ∙
-        ap (λ k. tested l (written (record { line = l; wrote = true; file = f; number = k }) (s .pool) s) (met (record { line = l; wrote = true; file = f; number = k }) (s .entries)) (goes (written (record { line = l; wrote = true; file = f; number = k }) (s .pool) s))) back
+        ap (λ k. tested l (written (record { line = l; wrote = true; file = f; number = k }) (s .pool) s) (hazard (record { line = l; wrote = true; file = f; number = k }) (s .entries)) (goes (written (record { line = l; wrote = true; file = f; number = k }) (s .pool) s))) back
 
-  then-tested : (r : Stand) (m : Option Hazard) (k : Stand → Turn) → then (tested l r m (goes r)) k ≡ tested l r m (k r)
+  then-tested : (r : State) (m : Option Hazard) (k : State → Outcome) → then (tested l r m (goes r)) k ≡ tested l r m (k r)
   then-tested r (Some h) k = refl
   then-tested r None k = refl
 
   module _ (c : Command) (same : (ys : List Content) → wants cs l ys ≡ want c ys) where
     pub skip-is :
-        (k : ℕ) (s : Stand) (rs : List Use) (u : Use) → length rs < k →
-        Distinct (s .pool .contents) → Short (s .pool .contents) → ended l (s .entries) ≡ false → matches (s .files) rs ≡ true →
-        follows (s .pool) (want c) (has-read (s .pool) l (s .entries)) rs u ≡ true → carry cs k l s ≡ skip l rs u s
+        (k : ℕ) (s : State) (rs : List Use) (u : Use) → length rs < k →
+        Distinct (s .pool .contents) → Short (s .pool .contents) → ended l (s .entries) ≡ false → match (s .files) rs ≡ true →
+        follows (s .pool) (want c) (has-read (s .pool) l (s .entries)) rs u ≡ true → carry (wants cs l) k l s ≡ skip l rs u s
     skip-is zero s rs u n d short e m h = absurd (omega arith)
     skip-is (suc k) s [] u n d short e m h =
         let b = and-parts (holds (s .pool) (u .number)) _ h in
         let q : wants cs l (has-read (s .pool) l (s .entries)) ≡ writes (u .file) (content (s .pool) (u .number)) = same _ ∙ makes-is _ (u .file) _ (b .1) in
         let done : ended l (s .entries ++ entry l true u ∷ []) ≡ true = ended-more l (s .entries) (entry l true u ∷ []) ∙ rw (e, own-line) in
-        let act-is : act cs l s ≡ tested l (written (entry l true u) (s .pool) s) (met (entry l true u) (s .entries)) (goes (written (entry l true u) (s .pool) s)) =
+        let act-is : act (wants cs l) l s ≡ tested l (written (entry l true u) (s .pool) s) (hazard (entry l true u) (s .entries)) (goes (written (entry l true u) (s .pool) s)) =
         ap (attempt (wants cs l) l s (has-read (s .pool) l (s .entries))) q ∙ writes-again s (u .file) (u .number) d short (b .0) in
-        ap (λ z. cond z (goes s) (then (act cs l s) (carry cs k l))) e ∙
-        ap (λ t. then t (carry cs k l)) act-is ∙
-        then-tested (written (entry l true u) (s .pool) s) (met (entry l true u) (s .entries)) (carry cs k l) ∙
-        ap (tested l (written (entry l true u) (s .pool) s) (met (entry l true u) (s .entries))) (ended-carry k (written (entry l true u) (s .pool) s) done)
+        ap (λ z. cond z (goes s) (then (act (wants cs l) l s) (carry (wants cs l) k l))) e ∙
+        ap (λ t. then t (carry (wants cs l) k l)) act-is ∙
+        then-tested (written (entry l true u) (s .pool) s) (hazard (entry l true u) (s .entries)) (carry (wants cs l) k l) ∙
+        ap (tested l (written (entry l true u) (s .pool) s) (hazard (entry l true u) (s .entries))) (ended-carry k (written (entry l true u) (s .pool) s) done)
       where
-        ended-carry : (j : ℕ) (r : Stand) → ended l (r .entries) ≡ true → carry cs j l r ≡ goes r
+        ended-carry : (j : ℕ) (r : State) → ended l (r .entries) ≡ true → carry (wants cs l) j l r ≡ goes r
         ended-carry zero r i = refl
         ended-carry (suc j) r i = rw i
     skip-is (suc k) s (r ∷ rs) u n d short e m h =
@@ -146,40 +149,23 @@ module _ (cs : List Command) (l : ℕ) where
         let q : wants cs l xs ≡ reads (r .file) = same _ ∙ asks-is _ (r .file) (a .0) in
         let number : known p (getD (s .files) (r .file) 0) ≡ r .number = ap (known p) (eqb-true _ _ (j .0)) ∙ rw (le-leb _ _ (held .1)) in
         let here : eqb (r .number) 0 ≡ false = ne-eqb _ _ (λ i. omega (arith, held .0)) in
-        let fits : unfit (wants cs l (xs ++ content p (r .number) ∷ [])) ≡ false = ap unfit (same _) ∙ fit p (want c) _ rs u (a .1) in
-        let act-is : act cs l s ≡ tested l (noted g s) (met g (s .entries)) (goes (noted g s)) =
+        let fits : is-bad (wants cs l (xs ++ content p (r .number) ∷ [])) ≡ false = ap is-bad (same _) ∙ fit p (want c) _ rs u (a .1) in
+        let act-is : act (wants cs l) l s ≡ tested l (noted g s) (hazard g (s .entries)) (goes (noted g s)) =
         ap (attempt (wants cs l) l s xs) q ∙
         ap (λ i. reading l s (record { line = l; wrote = false; file = r .file; number = i }) (wants cs l (xs ++ content p i ∷ []))) number ∙
-        ap (λ z. tested l (noted g s) (met g (s .entries)) (cond z (stops (noted g s) (at l Absent)) (cond (unfit (wants cs l (xs ++ content p (r .number) ∷ []))) (stops (noted g s) (at l BadList)) (goes (noted g s))))) here ∙
-        ap (λ z. tested l (noted g s) (met g (s .entries)) (cond z (stops (noted g s) (at l BadList)) (goes (noted g s)))) fits in
+        ap (λ z. tested l (noted g s) (hazard g (s .entries)) (cond z (stops (noted g s) (stop-at l Absent)) (cond (is-bad (wants cs l (xs ++ content p (r .number) ∷ []))) (stops (noted g s) (stop-at l BadList)) (goes (noted g s))))) here ∙
+        ap (λ z. tested l (noted g s) (hazard g (s .entries)) (cond z (stops (noted g s) (stop-at l BadList)) (goes (noted g s)))) fits in
         let seen : has-read p l (s .entries ++ g ∷ []) ≡ xs ++ content p (r .number) ∷ [] = has-read-more p l (s .entries) (g ∷ []) ∙ rw own-line in
         let open-still : ended l (s .entries ++ g ∷ []) ≡ false = ended-more l (s .entries) (g ∷ []) ∙ rw (e, own-line) in
-        ap (λ z. cond z (goes s) (then (act cs l s) (carry cs k l))) e ∙
-        ap (λ t. then t (carry cs k l)) act-is ∙
-        then-tested (noted g s) (met g (s .entries)) (carry cs k l) ∙
-        ap (tested l (noted g s) (met g (s .entries))) (skip-is k (noted g s) rs u (omega arith) d short open-still (j .1) (rw seen (a .1)))
+        ap (λ z. cond z (goes s) (then (act (wants cs l) l s) (carry (wants cs l) k l))) e ∙
+        ap (λ t. then t (carry (wants cs l) k l)) act-is ∙
+        then-tested (noted g s) (hazard g (s .entries)) (carry (wants cs l) k l) ∙
+        ap (tested l (noted g s) (hazard g (s .entries))) (skip-is k (noted g s) rs u (omega arith) d short open-still (j .1) (rw seen (a .1)))
 
 -- THE RECORD THAT A LINE SKIPS BY
 
-abbrev pub decode : ℕ → Kind
-decode n = cond (eqb n 1) Copy (cond (eqb n 2) Join (cond (eqb n 3) Gather (cond (eqb n 4) Choose (cond (eqb n 5) Tally Check))))
-
-pub decoded : (k : Kind) → decode (kind-number k) ≡ k
-decoded Copy = refl
-decoded Join = refl
-decoded Gather = refl
-decoded Choose = refl
-decoded Tally = refl
-decoded Check = refl
-
 pub same-want : (c d : Command) → same-command c d ≡ true → (ys : List Content) → want c ys ≡ want d ys
-same-want c d h ys =
-    let a = and-parts (eqb (kind-number (c .kind)) (kind-number (d .kind)) && eqb (c .a) (d .a) && eqb (c .b) (d .b) && eqb (c .c) (d .c)) (eqb (c .d) (d .d)) h in
-    let b = and-parts (eqb (kind-number (c .kind)) (kind-number (d .kind)) && eqb (c .a) (d .a) && eqb (c .b) (d .b)) (eqb (c .c) (d .c)) (a .0) in
-    let e = and-parts (eqb (kind-number (c .kind)) (kind-number (d .kind)) && eqb (c .a) (d .a)) (eqb (c .b) (d .b)) (b .0) in
-    let f = and-parts (eqb (kind-number (c .kind)) (kind-number (d .kind))) (eqb (c .a) (d .a)) (e .0) in
-    let kind : c .kind ≡ d .kind = sym (decoded (c .kind)) ∙ ap decode (eqb-true _ _ (f .0)) ∙ decoded (d .kind) in
-    rw (kind, eqb-true _ _ (f .1), eqb-true _ _ (e .1), eqb-true _ _ (b .1), eqb-true _ _ (a .1))
+same-want c d h ys = ap (λ x. want x ys) (same-is c d h)
 
 pub fresh-has : (p : Pool) (l : ℕ) (es : List Entry) → fresh l es ≡ true → (has-read p l es ≡ []) × (ended l es ≡ false)
 fresh-has p l [] h = (refl, refl)
@@ -194,11 +180,11 @@ pub record Noted (p : Pool) (c : Command) (q : Record) : Type 0 where
   pub same : same-command c (q .command) ≡ true
   pub true-if : q .standing ≡ Own → true-in p q ≡ true
 
-about-is : (p : Pool) (c : Command) (rs : List Record) (q : Record) → Honest p rs → about c rs ≡ Some q → Noted p c q
-about-is p c [] q h e = let z : _≡_ {A = ℕ} 0 1 = cc in absurd (omega arith)
-about-is p c (r ∷ rs) q h e = by (same-command c (r .command)) refl e (about-is p c rs q (h .1))
+record-is : (p : Pool) (c : Command) (rs : List Record) (q : Record) → Honest p rs → record-of c rs ≡ Some q → Noted p c q
+record-is p c [] q h e = let z : _≡_ {A = ℕ} 0 1 = cc in absurd (omega arith)
+record-is p c (r ∷ rs) q h e = by (same-command c (r .command)) refl e (record-is p c rs q (h .1))
   where
-    by : (b : Bool) → same-command c (r .command) ≡ b → cond b (Some r) (about c rs) ≡ Some q → (about c rs ≡ Some q → Noted p c q) → Noted p c q
+    by : (b : Bool) → same-command c (r .command) ≡ b → cond b (Some r) (record-of c rs) ≡ Some q → (record-of c rs ≡ Some q → Noted p c q) → Noted p c q
     by true d k ih = let i : r ≡ q = cc in subst (Noted p c) i (record { same = d; true-if = h .0 })
     by false d k ih = ih k
 
@@ -207,50 +193,55 @@ own-is Hint h = absurd (true≢false (sym h))
 own-is Own h = refl
 own-is Struck h = absurd (true≢false (sym h))
 
-pub record Skips (p : Pool) (cs : List Command) (k l : ℕ) (s : Stand) (q : Record) : Type 0 where
+pub record Skips (p : Pool) (cs : List Command) (k l : ℕ) (s : State) (q : Record) : Type 0 where
   pub wanted : (ys : List Content) → wants cs k ys ≡ want (q .command) ys
   pub first : fresh l (s .entries) ≡ true
-  pub match : matches (s .files) (q .reads) ≡ true
+  pub matching : match (s .files) (q .reads) ≡ true
   pub is-true : true-in p q ≡ true
 
-module _ (p : Pool) (rs : List Record) (honest : Honest p rs) (l : ℕ) (s : Stand) (q : Record) where
-  skips-is : (c : Command) → skips rs l c s ≡ Some q → Noted p c q × (fresh l (s .entries) ≡ true) × (own (q .standing) ≡ true) × (matches (s .files) (q .reads) ≡ true)
-  skips-is c e = by (fresh l (s .entries)) refl (about c rs) refl e
+module _ (p : Pool) (rs : List Record) (honest : Honest p rs) (l : ℕ) (s : State) (q : Record) where
+  -- what was found of a record that line l can be skipped by
+  abbrev Fit : Command → Record → Type 0
+  Fit c r = Noted p c r × (fresh l (s .entries) ≡ true) × (own (r .standing) ≡ true) × (match (s .files) (r .reads) ≡ true)
+
+  skips-is : (c : Command) → skips rs l c s ≡ Some q → Fit c q
+  skips-is c e = by (fresh l (s .entries)) refl (record-of c rs) refl e
     where
       not-none : {A : Type 0} → None ≡ Some q → A
       not-none e = let z : _≡_ {A = ℕ} 0 1 = cc in absurd (omega arith)
 
-      go : (r : Record) (b : Bool) → (own (r .standing) && matches (s .files) (r .reads)) ≡ b → cond b (Some r) None ≡ Some q → (r ≡ q) × (b ≡ true)
-      go r true d k = (cc, refl)
-      go r false d k = not-none k
+      go : (r : Record) (b : Bool) → cond b (Some r) None ≡ Some q → (r ≡ q) × (b ≡ true)
+      go r true k = (cc, refl)
+      go r false k = not-none k
 
-      by : (b : Bool) → fresh l (s .entries) ≡ b → (o : Option Record) → about c rs ≡ o → cond b (usable (s .files) o) None ≡ Some q → Noted p c q × (fresh l (s .entries) ≡ true) × (own (q .standing) ≡ true) × (matches (s .files) (q .reads) ≡ true)
+      by : (b : Bool) → fresh l (s .entries) ≡ b → (o : Option Record) → record-of c rs ≡ o → cond b (usable s o) None ≡ Some q → Fit c q
       by false d o i k = not-none k
       by true d None i k = not-none k
       by true d (Some r) i k =
-          let g = go r (own (r .standing) && matches (s .files) (r .reads)) refl k in
+          let g = go r _ k in
           let both = and-parts (own (r .standing)) _ (g .1) in
-          subst (λ z. Noted p c z × (fresh l (s .entries) ≡ true) × (own (z .standing) ≡ true) × (matches (s .files) (z .reads) ≡ true)) (g .0) (about-is p c rs r honest i, d, both .0, both .1)
+          let held = and-parts (all-held (s .pool) (r .write ∷ r .reads)) _ (both .1) in
+          subst (Fit c) (g .0) (record-is p c rs r honest i, d, both .0, held .1)
 
   pub skips-at-is : (cs : List Command) (k : ℕ) → skips-at rs cs k l s ≡ Some q → Skips p cs k l s q
   skips-at-is [] k e = let z : _≡_ {A = ℕ} 0 1 = cc in absurd (omega arith)
   skips-at-is (c ∷ cs) zero e =
       let h = skips-is c e in
-      record { wanted = same-want c (q .command) (h .0 .same); first = h .1; match = h .3; is-true = h .0 .true-if (own-is _ (h .2)) }
+      record { wanted = same-want c (q .command) (h .0 .same); first = h .1; matching = h .3; is-true = h .0 .true-if (own-is _ (h .2)) }
   skips-at-is (c ∷ cs) (suc k) e =
       let h = skips-at-is cs k e in
-      record { wanted = h .wanted; first = h .first; match = h .match; is-true = h .is-true }
+      record { wanted = h .wanted; first = h .first; matching = h .matching; is-true = h .is-true }
 
 -- it has at most 16 reads
-pub skips-few : (cs : List Command) (l : ℕ) (s : Stand) (q : Record) (p : Pool) → Skips p cs l l s q → length (q .reads) ≤ 16
+pub skips-few : (cs : List Command) (l : ℕ) (s : State) (q : Record) (p : Pool) → Skips p cs l l s q → length (q .reads) ≤ 16
 skips-few cs l s q p h = omega (arith, few p (want (q .command)) (λ g ys i. brief cs l g ys (h .wanted ys ∙ i)) (q .reads) [] (q .write) (omega arith) (h .is-true))
 
 -- so it is the rest of the line
 pub skipped-is :
-    (cs : List Command) (l : ℕ) (s : Stand) (rs : List Record) (q : Record) → Honest (s .pool) rs → Distinct (s .pool .contents) → Short (s .pool .contents) →
-    skips-at rs cs l l s ≡ Some q → carry cs 17 l s ≡ skip l (q .reads) (q .write) s
+    (cs : List Command) (l : ℕ) (s : State) (rs : List Record) (q : Record) → Honest (s .pool) rs → Distinct (s .pool .contents) → Short (s .pool .contents) →
+    skips-at rs cs l l s ≡ Some q → carry (wants cs l) 17 l s ≡ skip l (q .reads) (q .write) s
 skipped-is cs l s rs q honest d short e =
     let h = skips-at-is (s .pool) rs honest l s q cs l e in
     let f = fresh-has (s .pool) l (s .entries) (h .first) in
     let n = skips-few cs l s q (s .pool) h in
-    skip-is cs l (q .command) (h .wanted) 17 s (q .reads) (q .write) (omega (arith, n)) d short (f .1) (h .match) (rw (f .0) (h .is-true))
+    skip-is cs l (q .command) (h .wanted) 17 s (q .reads) (q .write) (omega (arith, n)) d short (f .1) (h .matching) (rw (f .0) (h .is-true))

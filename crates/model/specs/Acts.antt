@@ -1,136 +1,101 @@
--- One act of a line, the hazards that it can meet, and script order.
-use mathlib.Core.Bool.{Bool, true, false, cond, not, _&&_, _||_}
+-- One act of a line: its tests in order, and what it leaves.
+use mathlib.Core.Bool.{Bool, true, false, cond, _&&_, _||_}
 use mathlib.Core.List.{List, [], _∷_, _++_}
 use Prim.Native.Nat.{ℕ, zero, suc}
-use lib.Dec.{eqb, ltb, leb}
+use lib.Dec.{eqb, leb}
 use lib.ListN.{length, getD, set}
 use Rattle.std.specs.declared.option.Option.{Option}
 use Rattle.std.specs.declared.option.Option.the-variants.{Some, None}
-use Rattle.model.specs.declared.command.Command.{Command}
 use Rattle.model.specs.declared.run.Entry.{Entry}
-use Rattle.model.specs.declared.run.Clash.{Clash}
-use Rattle.model.specs.declared.run.Clash.the-variants.{WriteWrite, ReadWrite, EarlyRead}
 use Rattle.model.specs.declared.run.Hazard as Met
 use Rattle.model.specs.declared.run.Fault.{Fault}
-use Rattle.model.specs.declared.run.Fault.the-variants.{TooLong, Refused, Hazard, Absent, BadList}
+use Rattle.model.specs.declared.run.Fault.the-variants.{TooLong, NoRoom, Hazard, Absent, BadList}
 use Rattle.model.specs.declared.run.Stop.{Stop}
+use Rattle.model.specs.declared.run.LineState.{LineState}
+use Rattle.model.specs.declared.run.LineState.the-variants.{Waiting, Reading, Writing, Ended}
 use Rattle.model.specs.Contents.{Content, Pool, content, known, given, put}
-use Rattle.model.specs.Commands.{Want, reads, writes, bad, wants, unfit}
+use Rattle.model.specs.Commands.{Want, reads, writes, bad, is-bad}
+use Rattle.model.specs.Hazards.{fresh, ended, has-read, hazard}
 
--- What the acts work on: the number of each file, the pool, and the log, the oldest entry first.
-pub record Stand : Type 0 where
+-- What acts work on: the number of each file, the pool, and the entries of the log.
+pub record State : Type 0 where
   pub files : List ℕ
   pub pool : Pool
   pub entries : List Entry
 
--- An act, or many: where they come to, and the stop if one of them met one.
-pub data Turn : Type 0 where
-  goes : Stand → Turn
-  stops : Stand → Stop → Turn
+-- What an act comes to, or many: it goes on from a state, or stops there.
+pub data Outcome : Type 0 where
+  goes : State → Outcome
+  stops : State → Stop → Outcome
 
-abbrev pub then : Turn → (Stand → Turn) → Turn
+abbrev pub then : Outcome → (State → Outcome) → Outcome
 then (goes s) k = k s
 then (stops s y) k = stops s y
 
--- WHAT A LINE HAS DONE, read off the entries
+abbrev pub reached : Outcome → State
+reached (goes s) = s
+reached (stops s y) = s
 
--- the contents that line l has read
-abbrev pub has-read : Pool → ℕ → List Entry → List Content
-has-read p l [] = []
-has-read p l (e ∷ es) = cond (eqb l (e .line)) (cond (e .wrote) (has-read p l es) (content p (e .number) ∷ has-read p l es)) (has-read p l es)
-
--- line l has ended: it made its write
-abbrev pub ended : ℕ → List Entry → Bool
-ended l [] = false
-ended l (e ∷ es) = (eqb l (e .line) && e .wrote) || ended l es
-
--- HAZARDS of a new entry n against an earlier entry e
-
-abbrev pub write-write : Entry → Entry → Bool
-write-write n e = n .wrote && (e .wrote && eqb (n .file) (e .file))
-
-abbrev pub read-write : Entry → Entry → Bool
-read-write n e = n .wrote && (not (e .wrote) && eqb (n .file) (e .file))
-
--- a line reads what a higher line has written already
-abbrev pub early-read : Entry → Entry → Bool
-early-read n e = not (n .wrote) && (e .wrote && (eqb (n .file) (e .file) && ltb (n .line) (e .line)))
-
--- the earliest entry that passes a test
-abbrev pub first : (Entry → Bool) → List Entry → Option Entry
-first t [] = None
-first t (e ∷ es) = cond (t e) (Some e) (first t es)
-
-abbrev pub hazard : Clash → Entry → Option Entry → Option Met.Hazard → Option Met.Hazard
-hazard k n (Some e) h = Some (record { clash = k; file = n .file; earlier = e; later = n })
-hazard k n None h = h
-
-abbrev pub met : Entry → List Entry → Option Met.Hazard
-met n es =
-    hazard WriteWrite n (first (write-write n) es)
-    (hazard ReadWrite n (first (read-write n) es)
-    (hazard EarlyRead n (first (early-read n) es) None))
-
--- STOPS, by their numbers
-
-abbrev pub fault-number : Fault → ℕ
-fault-number TooLong = 31
-fault-number Refused = 32
-fault-number (Hazard h) = 33
-fault-number Absent = 34
-fault-number BadList = 35
+abbrev pub stop-of : Outcome → Option Stop
+stop-of (goes s) = None
+stop-of (stops s y) = Some y
 
 -- ONE ACT OF LINE l
 
-abbrev pub at : ℕ → Fault → Stop
-at l y = record { line = l; fault = y }
+abbrev pub stop-at : ℕ → Fault → Stop
+stop-at l y = record { line = l; fault = y }
 
 -- a hazard stops, else it goes on as given
-abbrev pub tested : ℕ → Stand → Option Met.Hazard → Turn → Turn
-tested l s (Some h) t = stops s (at l (Hazard h))
+abbrev pub tested : ℕ → State → Option Met.Hazard → Outcome → Outcome
+tested l s (Some h) t = stops s (stop-at l (Hazard h))
 tested l s None t = t
 
-abbrev pub noted : Entry → Stand → Stand
+abbrev pub noted : Entry → State → State
 noted e s = record { files = s .files; pool = s .pool; entries = s .entries ++ e ∷ [] }
 
--- The entry of a read comes first; then a hazard stops, an absent file, a bad list. `next` is what the line wants then.
-abbrev pub reading : ℕ → Stand → Entry → Want → Turn
-reading l s e next =
-    tested l (noted e s) (met e (s .entries))
-    (cond (eqb (e .number) 0) (stops (noted e s) (at l Absent))
-    (cond (unfit next) (stops (noted e s) (at l BadList))
+-- The entry of a read comes first; then a hazard stops, an absent file, a bad list. `after` is what the line wants then.
+abbrev pub reading : ℕ → State → Entry → Want → Outcome
+reading l s e after =
+    tested l (noted e s) (hazard e (s .entries))
+    (cond (eqb (e .number) 0) (stops (noted e s) (stop-at l Absent))
+    (cond (is-bad after) (stops (noted e s) (stop-at l BadList))
     (goes (noted e s))))
 
-abbrev pub written : Entry → Pool → Stand → Stand
+abbrev pub written : Entry → Pool → State → State
 written e p s = record { files = set (s .files) (e .file) (e .number); pool = p; entries = s .entries ++ e ∷ [] }
 
--- the write of a content that has the number n now, with the pool p; 0: it was refused
-abbrev pub writing : ℕ → Stand → ℕ → Pool → ℕ → Turn
-writing l s f p zero = stops s (at l Refused)
+-- the write of a content that has the number n now, with the pool p; 0: the pool refused it, and there is no act
+abbrev pub writing : ℕ → State → ℕ → Pool → ℕ → Outcome
+writing l s f p zero = stops s (stop-at l NoRoom)
 writing l s f p (suc n) =
     let e : Entry = record { line = l; wrote = true; file = f; number = suc n } in
-    tested l (written e p s) (met e (s .entries)) (goes (written e p s))
+    tested l (written e p s) (hazard e (s .entries)) (goes (written e p s))
 
-abbrev pub attempt : (List Content → Want) → ℕ → Stand → List Content → Want → Turn
-attempt k l s xs bad = stops s (at l BadList)
+-- what is wanted now, of a line that wants `k xs` where it has read xs
+abbrev pub attempt : (List Content → Want) → ℕ → State → List Content → Want → Outcome
+attempt k l s xs bad = stops s (stop-at l BadList)
 attempt k l s xs (reads f) =
     let n = known (s .pool) (getD (s .files) f 0) in
     reading l s (record { line = l; wrote = false; file = f; number = n }) (k (xs ++ content (s .pool) n ∷ []))
-attempt k l s xs (writes f x) = cond (leb (length x) 4096) (writing l s f (put (s .pool) x) (given (s .pool) x)) (stops s (at l TooLong))
+attempt k l s xs (writes f x) = cond (leb (length x) 4096) (writing l s f (put (s .pool) x) (given (s .pool) x)) (stops s (stop-at l TooLong))
 
-abbrev pub act : List Command → ℕ → Stand → Turn
-act cs l s = let xs = has-read (s .pool) l (s .entries) in attempt (wants cs l) l s xs (wants cs l xs)
+abbrev pub act : (List Content → Want) → ℕ → State → Outcome
+act k l s = let xs = has-read (s .pool) l (s .entries) in attempt k l s xs (k xs)
 
--- SCRIPT ORDER: the lines from 0 up, each all its acts (no command has more than 17); the first stop ends it
+-- THE STATE OF LINE l, read off the entries
 
-abbrev pub carry : List Command → ℕ → ℕ → Stand → Turn
-carry cs zero l s = goes s
-carry cs (suc k) l s = cond (ended l (s .entries)) (goes s) (then (act cs l s) (carry cs k l))
+-- it has read an absent file
+abbrev pub read-absent : ℕ → List Entry → Bool
+read-absent l [] = false
+read-absent l (e ∷ es) = (eqb l (e .line) && eqb (e .number) 0) || read-absent l es
 
--- the first n lines
-abbrev pub script : List Command → ℕ → Stand → Turn
-script cs zero s = goes s
-script cs (suc n) s = then (script cs n s) (carry cs 17 n)
+abbrev pub state-by : Want → LineState
+state-by (reads f) = Reading
+state-by (writes f x) = Writing
+state-by bad = Reading
 
-abbrev pub in-order : List Command → List ℕ → Pool → Turn
-in-order cs fs p = script cs (length cs) (record { files = fs; pool = p; entries = [] })
+abbrev pub line-state : (List Content → Want) → ℕ → Pool → List Entry → LineState
+line-state k l p es =
+    cond (ended l es) Ended
+    (cond (fresh l es) Waiting
+    (cond (read-absent l es) Reading (state-by (k (has-read p l es)))))

@@ -1,7 +1,9 @@
+use crate::refusal::Refusal;
 ghost use mathlib.Core.Path.{_≡_};
-ghost use Rattle.model.specs.Acts.{fault-number};
+ghost use Rattle.model.specs.Answers.{fault-refusal};
 
-/// One act of a line: it read or wrote this file, and the content has this number.
+/// One act of a line, as the log notes it: it read or wrote this file, and the content has this number (0: the
+/// file was absent).
 #[derive(Clone, Copy)]
 pub struct Entry {
     pub line: u8,
@@ -10,79 +12,72 @@ pub struct Entry {
     pub number: u16,
 }
 
+/// How two acts on one file are in an order that matters.
 #[derive(Clone, Copy)]
-pub enum Clash {
+pub enum HazardKind {
+    /// A write after an earlier write.
     WriteWrite,
+    /// A write after an earlier read.
     ReadWrite,
-    EarlyRead,
+    /// A read after an earlier write by a higher line.
+    SpeculativeWriteRead,
 }
 
-/// A new act met an earlier one on the same file.
+/// A new act met an earlier act on the same file.
 #[derive(Clone, Copy)]
 pub struct Hazard {
-    pub clash: Clash,
+    pub kind: HazardKind,
     pub file: u8,
     pub earlier: Entry,
     pub later: Entry,
 }
 
-/// Why a run stopped.
+/// Why a line could not go on.
 #[derive(Clone, Copy)]
 pub enum Fault {
+    /// It is to write more than 4,096 bytes.
     TooLong,
-    Refused,
+    /// The pool refuses what it is to write.
+    NoRoom,
+    /// Its act met an earlier one.
     Hazard(Hazard),
+    /// It read a file that is absent.
     Absent,
+    /// It read a list that breaks the rule of lists.
     BadList,
 }
 
 impl Fault {
-    pub fn number(&self) -> u8
-        ensures { λ r. ⌜ r ≡ fault-number (now (self .entry)) ⌝ }
+    /// The refusal by which reports and programs tell it.
+    pub fn refusal(&self) -> Refusal
+        ensures { λ r. ⌜ r ≡ fault-refusal (now (self .entry)) ⌝ }
     {
         match self {
-            Fault::TooLong => 31,
-            Fault::Refused => 32,
-            Fault::Hazard(_) => 33,
-            Fault::Absent => 34,
-            Fault::BadList => 35,
+            Fault::TooLong => Refusal::WriteTooLong,
+            Fault::NoRoom => Refusal::PoolFull,
+            Fault::Hazard(_) => Refusal::HazardMet,
+            Fault::Absent => Refusal::FileAbsent,
+            Fault::BadList => Refusal::BadList,
         }
     }
 }
 
+/// The end of a run that could not go on: the line, and why.
 #[derive(Clone, Copy)]
 pub struct Stop {
     pub line: u8,
     pub fault: Fault,
 }
 
-/// What a step did: the line that it worked on, whether it skipped it by a record, and the stop if it met one.
-#[derive(Clone, Copy)]
-pub struct Stepped {
-    pub line: u8,
-    pub skipped: bool,
-    pub stop: Option<Stop>,
-}
-
-/// How a run ended.
-#[derive(Clone, Copy)]
-pub enum Ended {
-    Kept,
-    PutBack,
-    Stopped(Stop),
-}
-
-/// What a build came to.
-#[derive(Clone, Copy)]
-pub struct Outcome {
-    pub end: Ended,
-    pub first: Option<Stop>,
-    pub executed: u8,
-    pub skipped: u8,
-}
-
-/// A refusal by its number.
-#[derive(Clone, Copy)]
-pub struct Number {
-    pub number: u8,
+/// How far a line has come.
+#[derive(Clone, Copy, PartialEq, Eq)]
+pub enum LineState {
+    /// It has made no act.
+    Waiting,
+    /// It has reads left.
+    Reading,
+    /// It has made all its reads.
+    Writing,
+    /// It has made its write.
+    Ended,
 }
