@@ -1,5 +1,24 @@
+-- In reading order.
 pub mod Numbers
 pub mod Digits
 pub mod Contents
-pub mod Policies
+pub mod Commands
+pub mod Hazards
+pub mod Acts
+pub mod Order
 pub mod Records
+pub mod Truth
+pub mod Book
+pub mod Policies
+pub mod Answers
+pub mod World
+pub mod Lay
+pub mod Load
+pub mod Audit
+pub mod Begin
+pub mod Step
+pub mod Close
+pub mod Calls
+pub mod Past
+pub mod Build
+pub mod Promise
