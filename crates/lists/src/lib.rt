@@ -1,0 +1,4 @@
+//! Lists over memory that their owner lends.
+mod list;
+
+pub use list::Lent;
