@@ -1,40 +1,19 @@
 -- A front `take n xs`, which is what a lent list holds, after each change of `n` or of the list.
 use Prim.Native.Nat.{ℕ, _+_, _-_, _≤_, _<_}
 use borrow.Rule.Slice.PartMut.{putMid}
-use lib.ListN.{length, getD, set, take}
+use lib.ListN.{length, set, take}
 use lib.Seq.{take-set-lt}
 use mathlib.Core.List.{List, [], _∷_, _++_}
 use mathlib.Core.Logic.{inl, inr}
 use mathlib.Core.Path.{_≡_, sym, ap, _∙_}
 use native.Mathlib.Omega.{arith}
-use Rattle.std.proofs.shelf.Lists.{length-take, getD-take, take-take, take-all}
+use Rattle.std.proofs.shelf.Lists.{length-take, take-take, take-all, take-more-set}
 use Rattle.std.proofs.shelf.Parts.{take-putMid}
 use Rattle.std.proofs.shelf.Tests.{cases-lt}
-use Rattle.std.proofs.shelf.Maps.{nth-getD}
-use Rattle.std.specs.declared.option.Option.the-variants.{Some}
-use Rattle.std.specs.shelf.Maps.{nth}
 
 -- an index of the front is one of the list, below n
 pub in-list : {X : Type 0} (n : ℕ) (xs : List X) (i : ℕ) → i < length (take n xs) → (i < n) × (i < length xs)
 in-list n xs i h = let p = length-take n xs in (omega arith, omega arith)
-
-pub read-front : {X : Type 0} (n : ℕ) (xs : List X) (i : ℕ) (x : X) → i < length (take n xs) → x ≡ getD xs i x → Some x ≡ nth (take n xs) i
-read-front n xs i x h e = ap Some (e ∙ sym (getD-take n xs i x (in-list n xs i h .0))) ∙ sym (nth-getD (take n xs) i x h)
-
-pub under : {X : Type 0} (n : ℕ) (xs : List X) → n < length xs → length (take n xs) < length xs
-under n xs h = let p = length-take n xs in omega arith
-
-pub full : {X : Type 0} (n : ℕ) (xs : List X) → length xs ≤ n → length xs ≤ length (take n xs)
-full n xs h = let p = length-take n xs in omega arith
-
-pub set-front : {X : Type 0} (n : ℕ) (xs : List X) (i : ℕ) (x : X) → i < length (take n xs) → take n (set xs i x) ≡ set (take n xs) i x
-set-front n xs i x h = take-set-lt _ _ _ _ (in-list n xs i h .0)
-
-pub cut-front : {X : Type 0} (m n : ℕ) (xs : List X) → m < n → take m xs ≡ take m (take n xs)
-cut-front m n xs h = sym (take-take m n xs (omega arith))
-
-pub whole-front : {X : Type 0} (m n : ℕ) (xs : List X) → n ≤ m → take n xs ≡ take m (take n xs)
-whole-front m n xs h = let p = length-take n xs in sym (take-all m (take n xs) (omega arith))
 
 -- as many elements as the front has are the front
 pub front-is : {X : Type 0} (m n : ℕ) (xs : List X) → m ≡ length (take n xs) → take m xs ≡ take n xs
@@ -45,9 +24,15 @@ front-is m n xs e =
       | inr h ↦ take-all m xs (omega arith) ∙ sym (take-all n xs h)
     ]
 
--- the part `items[0..m]`
-pub front-part : {X : Type 0} (m n : ℕ) (xs : List X) → m ≡ length (take n xs) → take (m - 0) xs ≡ take n xs
-front-part m n xs e = front-is (m - 0) n xs (omega arith)
+-- one element more, at the end of the front
+pub added : {X : Type 0} (n : ℕ) (xs : List X) (x : X) (m : ℕ) → m ≡ length (take n xs) → length (take n xs) < length xs → take (m + 1) (set xs m x) ≡ take n xs ++ x ∷ []
+added n xs x m e h = take-more-set xs m x (omega arith) ∙ ap (λ t. t ++ x ∷ []) (front-is m n xs e)
+
+pub set-front : {X : Type 0} (n : ℕ) (xs : List X) (i : ℕ) (x : X) → i < length (take n xs) → take n (set xs i x) ≡ set (take n xs) i x
+set-front n xs i x h = take-set-lt _ _ _ _ (in-list n xs i h .0)
+
+pub cut-front : {X : Type 0} (m n : ℕ) (xs : List X) → m < n → take m xs ≡ take m (take n xs)
+cut-front m n xs h = sym (take-take m n xs (omega arith))
 
 -- after a copy to the end of the front
 pub extended : {X : Type 0} (n b : ℕ) (xs ys zs : List X) → b ≡ length (take n xs) → ys ≡ zs → take (b + length zs) (putMid b (b + length zs - b) xs ys) ≡ take n xs ++ zs

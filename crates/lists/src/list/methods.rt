@@ -8,6 +8,8 @@ ghost use Rattle.std.specs.Options.{mapped};
 ghost use Rattle.std.specs.shelf.Maps.{nth};
 ghost use Rattle.lists.specs.Held.{held, room};
 use super::Lent;
+use crate::slices::element;
+use crate::slices::front;
 
 impl<'a, T: Copy> Lent<'a, T> {
     /// An empty list with as much room as is lent.
@@ -18,12 +20,19 @@ impl<'a, T: Copy> Lent<'a, T> {
         Lent { items, len: 0 }
     }
 
+    /// All that it holds.
+    pub fn as_slice(&self) -> &[T]
+        ensures { λ r. ⌜ now r ≡ held (now (self .entry)) ⌝ }
+    {
+        let items = &*self.items;
+        front(items, self.len)
+    }
+
     /// How many elements it holds.
     pub fn len(&self) -> usize
-        ensures value { λ r. ⌜ r ≡ length (held (now (self .entry))) ⌝ }
-        ensures within { λ r. ⌜ r ≤ room (now (self .entry)) ⌝ }
+        ensures { λ r. ⌜ r ≡ length (held (now (self .entry))) ⌝ }
     {
-        self.len.min(self.room())
+        self.as_slice().len()
     }
 
     /// How many elements it can hold.
@@ -33,36 +42,18 @@ impl<'a, T: Copy> Lent<'a, T> {
         self.items.len()
     }
 
-    /// A copy of the element at a place.
-    pub fn get(&self, at: usize) -> Option<T>
-        ensures { λ r. ⌜ r ≡ nth (held (now (self .entry))) at ⌝ }
-    {
-        if at < self.len() {
-            let items = &*self.items;
-            Some(items[at])
-        } else {
-            None
-        }
-    }
-
     /// The element at a place, borrowed.
     pub fn at(&self, at: usize) -> Option<&T>
         ensures { λ r. ⌜ mapped now r ≡ nth (held (now (self .entry))) at ⌝ }
     {
-        if at < self.len() {
-            let items = &*self.items;
-            Some(&items[at])
-        } else {
-            None
-        }
+        element(self.as_slice(), at)
     }
 
-    /// All that it holds.
-    pub fn as_slice(&self) -> &[T]
-        ensures { λ r. ⌜ now r ≡ held (now (self .entry)) ⌝ }
+    /// A copy of the element at a place.
+    pub fn get(&self, at: usize) -> Option<T>
+        ensures { λ r. ⌜ r ≡ nth (held (now (self .entry))) at ⌝ }
     {
-        let n = self.len();
-        &self.items[0..n]
+        self.at(at).copied()
     }
 
     /// Adds an element; false, and nothing changed, where the list is full.
@@ -71,45 +62,37 @@ impl<'a, T: Copy> Lent<'a, T> {
         ensures held { λ r. ⌜ held (now (self .exit)) ≡ cond r (held (now (self .entry)) ++ x ∷ []) (held (now (self .entry))) ⌝ }
         ensures room { λ _. ⌜ room (now (self .exit)) ≡ room (now (self .entry)) ⌝ }
     {
-        let room = self.room();
-        if self.len < room {
-            self.items[self.len] = x;
-            self.len += 1;
-            true
-        } else {
-            false
+        let fits = self.len() < self.room();
+        if fits {
+            self.append(x);
         }
+        fits
     }
 
     /// Adds several elements; false, and nothing changed, where there is not room for all of them.
     pub fn extend(&mut self, more: &[T]) -> bool
-        ensures fits { λ r. ⌜ r ≡ leb (length (held (now (self .entry))) + length (now (more .entry))) (room (now (self .entry))) ⌝ }
+        ensures fits { λ r. ⌜ r ≡ leb (length (now (more .entry))) (room (now (self .entry)) - length (held (now (self .entry)))) ⌝ }
         ensures held { λ r. ⌜ held (now (self .exit)) ≡ cond r (held (now (self .entry)) ++ now (more .entry)) (held (now (self .entry))) ⌝ }
         ensures room { λ _. ⌜ room (now (self .exit)) ≡ room (now (self .entry)) ⌝ }
     {
-        let start = self.len();
-        let count = more.len();
-        if count > self.room() - start {
-            return false;
+        let fits = more.len() <= self.room().saturating_sub(self.len());
+        if fits {
+            self.append_all(more);
         }
-        let end = start + count;
-        self.items[start..end].copy_from_slice(more);
-        self.len = end;
-        true
+        fits
     }
 
     /// Puts another element at a place; false, and nothing changed, where nothing is held there.
     pub fn replace(&mut self, at: usize, x: T) -> bool
         ensures fits { λ r. ⌜ r ≡ ltb at (length (held (now (self .entry)))) ⌝ }
-        ensures held { λ _. ⌜ held (now (self .exit)) ≡ set (held (now (self .entry))) at x ⌝ }
+        ensures held { λ r. ⌜ held (now (self .exit)) ≡ cond r (set (held (now (self .entry))) at x) (held (now (self .entry))) ⌝ }
         ensures room { λ _. ⌜ room (now (self .exit)) ≡ room (now (self .entry)) ⌝ }
     {
-        if at < self.len() {
-            self.items[at] = x;
-            true
-        } else {
-            false
+        let fits = at < self.len();
+        if fits {
+            self.write(at, x);
         }
+        fits
     }
 
     /// Keeps the first elements, at most as many as are told: the count never rises.
@@ -117,8 +100,8 @@ impl<'a, T: Copy> Lent<'a, T> {
         ensures held { λ _. ⌜ held (now (self .exit)) ≡ take count (held (now (self .entry))) ⌝ }
         ensures room { λ _. ⌜ room (now (self .exit)) ≡ room (now (self .entry)) ⌝ }
     {
-        if count < self.len {
-            self.len = count;
+        if count < self.len() {
+            self.shorten(count);
         }
     }
 
@@ -128,5 +111,42 @@ impl<'a, T: Copy> Lent<'a, T> {
         ensures room { λ _. ⌜ room (now (self .exit)) ≡ room (now (self .entry)) ⌝ }
     {
         self.len = 0;
+    }
+
+    fn append(&mut self, x: T)
+        requires { ⌜ length (held (now self)) < room (now self) ⌝ }
+        ensures held { λ _. ⌜ held (now (self .exit)) ≡ held (now (self .entry)) ++ x ∷ [] ⌝ }
+        ensures room { λ _. ⌜ room (now (self .exit)) ≡ room (now (self .entry)) ⌝ }
+    {
+        let end = self.len();
+        self.items[end] = x;
+        self.len = end + 1;
+    }
+
+    fn append_all(&mut self, more: &[T])
+        requires { ⌜ length (now more) ≤ room (now self) - length (held (now self)) ⌝ }
+        ensures held { λ _. ⌜ held (now (self .exit)) ≡ held (now (self .entry)) ++ now (more .entry) ⌝ }
+        ensures room { λ _. ⌜ room (now (self .exit)) ≡ room (now (self .entry)) ⌝ }
+    {
+        let start = self.len();
+        let end = start + more.len();
+        self.items[start..end].copy_from_slice(more);
+        self.len = end;
+    }
+
+    fn write(&mut self, at: usize, x: T)
+        requires { ⌜ at < length (held (now self)) ⌝ }
+        ensures held { λ _. ⌜ held (now (self .exit)) ≡ set (held (now (self .entry))) at x ⌝ }
+        ensures room { λ _. ⌜ room (now (self .exit)) ≡ room (now (self .entry)) ⌝ }
+    {
+        self.items[at] = x;
+    }
+
+    fn shorten(&mut self, count: usize)
+        requires { ⌜ count < length (held (now self)) ⌝ }
+        ensures held { λ _. ⌜ held (now (self .exit)) ≡ take count (held (now (self .entry))) ⌝ }
+        ensures room { λ _. ⌜ room (now (self .exit)) ≡ room (now (self .entry)) ⌝ }
+    {
+        self.len = count;
     }
 }

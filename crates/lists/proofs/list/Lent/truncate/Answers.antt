@@ -1,10 +1,12 @@
--- A shorter front, or the same one.
+-- A list that is not longer stays as it is.
 use borrow.Author.Needs.{needs}
-use Rattle.lists.proofs.Fronts.{cut-front, whole-front}
+use lib.ListN.{take}
+use mathlib.Core.Path.{sym}
+use native.Mathlib.Omega.{arith}
+use Rattle.std.proofs.shelf.Lists.{take-all}
 use Rattle.lists.proofs.list.Lent.truncate.Needs as need
 
-pub returns-then-count-self : need.returns-then-count-self
-returns-then-count-self g c = record { held = cut-front _ _ _ (c .if-count-self .taken); room = search needs }
-
-pub returns-else-count-self : need.returns-else-count-self
-returns-else-count-self g c = record { held = whole-front _ _ _ (c .if-count-self .left); room = search needs }
+pub returns-else-count-len : need.returns-else-count-len
+returns-else-count-len g c =
+    let l = c .args .self .now in
+    record { held = sym (take-all (c .args .count) (take (l .len) (l .items .now)) (omega (arith, c .len .ensures))); room = search needs }
