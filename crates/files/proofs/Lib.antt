@@ -1,0 +1,4 @@
+mod Layouts
+mod Tables
+mod Walks
+pub mod Trips
