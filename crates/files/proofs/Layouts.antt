@@ -101,3 +101,20 @@ unfolding layout padded
 finished d ns long was =
     let all = take-all 64 ns (omega arith) in
     ap (λ bs. set bs 0 (d .count)) (was .bytes) ∙ ap (λ c. padded 193 (c ∷ entries 0 (take 64 ns))) (was .count) ∙ ap (λ xs. padded 193 (present xs ∷ entries 0 xs)) all
+
+-- a layout has 193 bytes
+entries-low : (f : ℕ) (ns : List ℕ) → length (entries f ns) ≤ 3 * length ns
+unfolding entries
+entries-low f [] = omega arith
+entries-low f (n ∷ ns) = by (entries-low (suc f) ns) (eqb n 0)
+  where
+    by : length (entries (suc f) ns) ≤ 3 * length ns → (b : Bool) → length (cond b [] (f ∷ n / 256 % 256 ∷ n % 256 ∷ []) ++ entries (suc f) ns) ≤ 3 * suc (length ns)
+    by h true = omega arith
+    by h false = omega arith
+
+pub layout-length : (ns : List ℕ) → length ns ≡ 64 → length (layout ns) ≡ 193
+unfolding layout padded
+layout-length ns long =
+    let es : List ℕ = present ns ∷ entries 0 ns in
+    let low = entries-low 0 ns in
+    omega (arith, length-append es (replicate (193 - length es) 0), length-replicate {A = ℕ} (193 - length es) 0)

@@ -1,11 +1,7 @@
--- What an image shows, and what filling one answers.
-use mathlib.Core.Bool.{cond}
+-- What is always so of an image, and the law of its layout.
 use mathlib.Core.List.{List}
 use mathlib.Core.Path.{_≡_}
 use Prim.Native.Nat.{ℕ}
-use lib.Dec.{eqb}
-use lib.ListN.{length}
-use Rattle.std.specs.shelf.Text.{sameBytes}
 use Rattle.files.specs.Layout.{Map, layout, mapped}
 
 -- bytes are the layout of the map that they mean

@@ -1,10 +1,13 @@
-ghost use mathlib.Core.Bool.{Bool, true};
+ghost use mathlib.Core.Bool.{Bool, true, false};
 ghost use mathlib.Core.List.{List};
 ghost use mathlib.Core.Path.{_≡_};
 ghost use Prim.Native.Nat.{ℕ, _<_};
-ghost use lib.ListN.{getD};
+ghost use lib.Dec.{eqb};
+ghost use lib.ListN.{length, getD};
+ghost use Rattle.std.specs.Options.{Cases, isSome};
 ghost use Rattle.std.specs.shelf.Text.{sameBytes};
 ghost use Rattle.files.specs.Layout.{Map, layout, mapped};
+ghost use Rattle.files.specs.Stores.{Laid, Round-trip};
 use crate::draft::Draft;
 
 /// The image of a table of numbers.
@@ -46,4 +49,37 @@ pub fn decoded(bytes: &[u8; 193]) -> [u16; 64]
         numbers[file as usize] = number_in(bytes, file);
     }
     numbers
+}
+
+/// The bytes as an image, if they have its length.
+pub fn sized(bytes: &[u8]) -> Option<[u8; 193]>
+    ensures size { λ r. ⌜ isSome r ≡ eqb (length (now (bytes .entry))) 193 ⌝ }
+    ensures same { λ r. ⌜ Cases r (Unit {0}) (λ image. image ≡ now (bytes .entry)) ⌝ }
+    ensures none { λ r. ⌜ (isSome r ≡ false → (ns : List ℕ) → Map ns → now (bytes .entry) ≡ layout ns → ⊥) ⌝ }
+{
+    if bytes.len() != 193 {
+        return None;
+    }
+    let mut image = [0; 193];
+    image.copy_from_slice(bytes);
+    Some(image)
+}
+
+/// An image is the layout of the map that it means.
+pub fn is_laid(image: &[u8; 193]) -> bool
+    ensures value { λ r. ⌜ r ≡ sameBytes (now (image .entry)) (layout (mapped (now (image .entry)))) ⌝ }
+    ensures laid { λ r. ⌜ (r ≡ true → Laid (now (image .entry))) ⌝ }
+    ensures fits { λ r. ⌜ (r ≡ true → (k : ℕ) → getD (mapped (now (image .entry))) k 0 < 65536) ⌝ }
+    ensures found { λ r. ⌜ ((ns : List ℕ) → Map ns → now (image .entry) ≡ layout ns → r ≡ true) ⌝ }
+    ensures same { λ r. ⌜ ((ns : List ℕ) → Map ns → now (image .entry) ≡ layout ns → mapped (now (image .entry)) ≡ ns) ⌝ }
+{
+    let again = encoded(decoded(image));
+    again[..] == image[..]
+}
+
+/// The law of the layout stands.
+pub fn round_trip_stands() -> u8
+    ensures { λ _. ⌜ Round-trip ⌝ }
+{
+    0
 }

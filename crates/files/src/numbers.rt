@@ -1,6 +1,15 @@
 ghost use mathlib.Core.Path.{_≡_};
 ghost use Prim.Native.Nat.{ℕ, _<_};
-ghost use lib.ListN.{length, getD, set};
+ghost use lib.ListN.{length, getD, set, replicate};
+
+/// The numbers where every file is absent.
+pub fn absent() -> [u16; 64]
+    ensures value { λ r. ⌜ r ≡ replicate 64 0 ⌝ }
+    ensures long { λ r. ⌜ length r ≡ 64 ⌝ }
+    ensures fits { λ r. ⌜ ((k : ℕ) → getD r k 0 < 65536) ⌝ }
+{
+    [0; 64]
+}
 
 /// The number at a file, 0 above 63.
 pub fn number_at(numbers: &[u16; 64], file: u8) -> u16

@@ -1,6 +1,7 @@
 ghost use mathlib.Core.Path.{_≡_};
 ghost use Prim.Native.Nat.{ℕ, _<_};
 ghost use lib.ListN.{length, getD, set, replicate};
+use crate::numbers::absent;
 use crate::numbers::number_at;
 use crate::numbers::with_number;
 use crate::store::FileStore;
@@ -18,7 +19,7 @@ impl Table {
     pub fn new() -> Table
         ensures { λ r. ⌜ r .numbers ≡ replicate 64 0 ⌝ }
     {
-        Table { numbers: [0; 64] }
+        Table { numbers: absent() }
     }
 }
 
