@@ -9,7 +9,7 @@ use mathlib.Core.Path.{_≡_, refl, sym, ap, _∙_}
 use native.Mathlib.Omega.{arith}
 use Rattle.std.proofs.shelf.Equals.{sameBytes-decides}
 use Rattle.std.proofs.shelf.Lists.{getD-past}
-use Rattle.std.proofs.shelf.Tests.{cond-true, cond-false, cases-bool, and-parts, leb-true, both-ways}
+use Rattle.std.proofs.shelf.Tests.{cond-true, cond-false, cases-bool, and-parts, leb-true}
 use Rattle.std.specs.shelf.Text.{sameBytes}
 use Rattle.model.specs.Contents.{holds, find, up, mem}
 use Rattle.pool.specs.Stores.{Kept, held, stands}
@@ -28,18 +28,7 @@ held-place s kept n e =
 pub past-last : (s : Store) → Kept s → (k : ℕ) → s .count ≤ k → [] ≡ getD (held s) k []
 past-last s kept k h = sym (getD-past (held s) k [] (omega (arith, count-held s kept)))
 
--- what a comparison answers, b being the bytes that are held
-pub compared : (r : Bool) (b x h : List ℕ) → b ≡ h → (r ≡ true → b ≡ x) → (b ≡ x → r ≡ true) → r ≡ sameBytes x h
-compared r b x h e to from =
-    elim (cases-bool r) [
-      | inl t ↦ t ∙ sym (sameBytes-decides x h .1 (sym (to t) ∙ e))
-      | inr f ↦
-          elim (cases-bool (sameBytes x h)) [
-            | inl t ↦ absurd (both-ways r f (from (e ∙ sym (sameBytes-decides x h .0 t))))
-            | inr g ↦ f ∙ sym g
-          ]
-    ]
-
+-- of another length than what is held, it is not the same
 pub other-length : (b x h : List ℕ) → b ≡ h → (length b ≡ length x → ⊥) → false ≡ sameBytes x h
 other-length b x h e ne =
     elim (cases-bool (sameBytes x h)) [
