@@ -2,6 +2,7 @@ ghost use Rattle.pool.specs.Sound.{Apart};
 ghost use Rattle.pool.specs.Stores.{BytesFit, PlacesFit, Packed, Filled, Short, held};
 use crate::store::Store;
 
+mod inner;
 mod methods;
 
 /// Contents, numbered from 1 in order of arrival, over lent bytes and lent places. No two are equal.

@@ -42,7 +42,7 @@ impl<'a> Pool<'a> {
     pub fn used(&self) -> usize
         ensures { λ r. ⌜ r ≡ used-by (meant (now (self .entry)) .contents) ⌝ }
     {
-        self.store.filled()
+        self.filled()
     }
 
     /// A number is in the pool.
@@ -68,7 +68,7 @@ impl<'a> Pool<'a> {
         ensures part { λ r. ⌜ Cases r (Unit {0}) (λ c. shown c ≡ part (now (self .entry)) (c .start) (length (shown c))) ⌝ }
     {
         if self.holds(number) {
-            Some(self.store.content(number))
+            Some(self.numbered(number))
         } else {
             None
         }
@@ -80,7 +80,7 @@ impl<'a> Pool<'a> {
         ensures value { λ r. ⌜ now r ≡ content-of (meant (now (self .entry))) number ⌝ }
         ensures short { λ r. ⌜ length (now r) ≤ 4096 ⌝ }
     {
-        self.store.bytes(number)
+        self.bytes_of(number)
     }
 
     /// The number of the content that equals this one, or 0.
@@ -88,7 +88,7 @@ impl<'a> Pool<'a> {
         ensures { λ r. ⌜ r .number ≡ find (now (content .entry)) (meant (now (self .entry)) .contents) ⌝ }
     {
         Found {
-            number: self.store.find(content),
+            number: self.search(content),
         }
     }
 
@@ -99,11 +99,11 @@ impl<'a> Pool<'a> {
         ensures taken { λ r. ⌜ isOk r ≡ ltb 0 (given (meant (now (self .entry))) (now (content .entry))) ⌝ }
         ensures after { λ _. ⌜ meant (now (self .exit)) ≡ put (meant (now (self .entry))) (now (content .entry)) ⌝ }
     {
-        let number = self.store.find(content);
+        let number = self.search(content);
         if number != 0 {
             return Ok(Put { number });
         }
-        if !self.store.has_room(content) {
+        if !self.has_room(content) {
             return Err(NoRoom);
         }
         self.store.append(content);
@@ -115,15 +115,8 @@ impl<'a> Pool<'a> {
     pub fn cut(&mut self, count: u16)
         ensures { λ _. ⌜ meant (now (self .exit)) ≡ cut count (meant (now (self .entry))) ⌝ }
     {
-        if count < self.store.counted() {
+        if count < self.size() {
             self.store.keep(count);
         }
-    }
-
-    fn size(&self) -> u16
-        ensures value { λ r. ⌜ r ≡ count-of (meant (now (self .entry))) ⌝ }
-        ensures sound { λ _. ⌜ Sound (meant (now (self .entry))) ⌝ }
-    {
-        self.store.counted()
     }
 }

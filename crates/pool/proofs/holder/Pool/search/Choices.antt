@@ -5,8 +5,8 @@ use mathlib.Core.Bool.{false}
 use mathlib.Core.List.{[]}
 use mathlib.Core.Path.{_≡_}
 use Rattle.std.specs.shelf.Text.{sameBytes}
-use Rattle.pool.specs.Stores.{held}
-use Rattle.pool.proofs.store.Store.find.Given as given
+use Rattle.pool.specs.Contents.{meant}
+use Rattle.pool.proofs.holder.Pool.search.Given as given
 
 abbrev pub Inv-loop-i : given.InvT-loop-i
-Inv-loop-i l = (k : ℕ) → k < l .i → sameBytes (l .content) (getD (held (l .self)) k []) ≡ false
+Inv-loop-i l = (k : ℕ) → k < l .i → sameBytes (l .content) (getD (meant (l .self) .contents) k []) ≡ false
