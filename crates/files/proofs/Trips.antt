@@ -46,7 +46,7 @@ told-below f g (n ∷ ns) zs h = by (told-below f (suc g) ns zs (omega arith)) (
     by rest true = rest
     by rest false = cond-false (eqb g f) (n / 256 % 256 * 256 + n % 256) (told f (present ns) (entries (suc g) ns ++ zs)) (ne-eqb g f (λ e. omega arith)) ∙ rest
 
-digits : (n : ℕ) → n < 65536 → n / 256 % 256 * 256 + n % 256 ≡ n
+pub digits : (n : ℕ) → n < 65536 → n / 256 % 256 * 256 + n % 256 ≡ n
 digits n h = omega arith
 
 -- they give each file its number
@@ -68,7 +68,7 @@ told-at g (suc k) (n ∷ ns) zs low =
     by rest false =
         cond-false (eqb g (g + suc k)) (n / 256 % 256 * 256 + n % 256) (told (g + suc k) (present ns) (entries (suc g) ns ++ zs)) (ne-eqb g (g + suc k) (λ e. omega arith)) ∙ rest
 
-present-low : (ns : List ℕ) → present ns ≤ length ns
+pub present-low : (ns : List ℕ) → present ns ≤ length ns
 unfolding present
 present-low [] = omega arith
 present-low (n ∷ ns) = by (present-low ns) (eqb n 0)

@@ -2,7 +2,7 @@
 use mathlib.Core.Bool.{cond}
 use mathlib.Core.List.{List, [], _∷_, _++_}
 use mathlib.Core.Path.{_≡_}
-use Prim.Native.Nat.{ℕ, zero, suc, min, _+_, _-_, _*_, _/_, _%_, _<_}
+use Prim.Native.Nat.{ℕ, zero, suc, min, _+_, _-_, _*_, _/_, _%_, _<_, _≤_}
 use lib.Dec.{eqb}
 use lib.ListN.{length, getD, drop, replicate}
 
@@ -53,3 +53,17 @@ numbers (suc m) f n bs = told f n bs ∷ numbers m (suc f) n bs
 -- the map that an image means
 unfoldable pub mapped : List ℕ → List ℕ
 mapped bs = numbers 64 0 (min (getD bs 0 0) 64) (drop 1 bs)
+
+-- n entries of files from f on, each at most 63, in rising order, their numbers not 0; then zeros
+unfoldable pub Entries : ℕ → ℕ → List ℕ → Type 0
+Entries f zero bs = (k : ℕ) → getD bs k 0 ≡ 0
+Entries f (suc n) [] = ⊥
+Entries f (suc n) (g ∷ []) = ⊥
+Entries f (suc n) (g ∷ a ∷ []) = ⊥
+Entries f (suc n) (g ∷ a ∷ b ∷ bs) = (f ≤ g) × (g ≤ 63) × (a * 256 + b ≡ 0 → ⊥) × Entries (suc g) n bs
+
+-- THE RULES OF AN IMAGE: 193 bytes, a count of 0 to 64, as many entries, and zeros
+pub record Rules (bs : List ℕ) : Type 0 where
+  pub size : length bs ≡ 193
+  pub count : getD bs 0 0 ≤ 64
+  pub entries : Entries 0 (getD bs 0 0) (drop 1 bs)

@@ -1,4 +1,4 @@
 pub mod Layout
 pub mod Drafts
-pub mod Stores
+pub mod Laws
 pub mod Images

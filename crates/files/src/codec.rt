@@ -6,8 +6,8 @@ ghost use lib.Dec.{eqb};
 ghost use lib.ListN.{length, getD};
 ghost use Rattle.std.specs.Options.{Cases, isSome};
 ghost use Rattle.std.specs.shelf.Text.{sameBytes};
-ghost use Rattle.files.specs.Layout.{Map, layout, mapped};
-ghost use Rattle.files.specs.Stores.{Laid, Round-trip};
+ghost use Rattle.files.specs.Layout.{Map, Rules, layout, mapped};
+ghost use Rattle.files.specs.Laws.{Laid, Round-trip};
 use crate::draft::Draft;
 
 /// The image of a table of numbers.
@@ -55,6 +55,7 @@ pub fn decoded(bytes: &[u8; 193]) -> [u16; 64]
 pub fn sized(bytes: &[u8]) -> Option<[u8; 193]>
     ensures size { λ r. ⌜ isSome r ≡ eqb (length (now (bytes .entry))) 193 ⌝ }
     ensures same { λ r. ⌜ Cases r (Unit {0}) (λ image. image ≡ now (bytes .entry)) ⌝ }
+    ensures unruly { λ r. ⌜ (isSome r ≡ false → Rules (now (bytes .entry)) → ⊥) ⌝ }
     ensures none { λ r. ⌜ (isSome r ≡ false → (ns : List ℕ) → Map ns → now (bytes .entry) ≡ layout ns → ⊥) ⌝ }
 {
     if bytes.len() != 193 {
@@ -66,14 +67,16 @@ pub fn sized(bytes: &[u8]) -> Option<[u8; 193]>
 }
 
 /// An image is the layout of the map that it means.
-pub fn is_laid(image: &[u8; 193]) -> bool
-    ensures value { λ r. ⌜ r ≡ sameBytes (now (image .entry)) (layout (mapped (now (image .entry)))) ⌝ }
-    ensures laid { λ r. ⌜ (r ≡ true → Laid (now (image .entry))) ⌝ }
-    ensures fits { λ r. ⌜ (r ≡ true → (k : ℕ) → getD (mapped (now (image .entry))) k 0 < 65536) ⌝ }
-    ensures found { λ r. ⌜ ((ns : List ℕ) → Map ns → now (image .entry) ≡ layout ns → r ≡ true) ⌝ }
-    ensures same { λ r. ⌜ ((ns : List ℕ) → Map ns → now (image .entry) ≡ layout ns → mapped (now (image .entry)) ≡ ns) ⌝ }
+pub fn is_laid(image: [u8; 193]) -> bool
+    ensures value { λ r. ⌜ r ≡ sameBytes image (layout (mapped image)) ⌝ }
+    ensures laid { λ r. ⌜ (r ≡ true → Laid image) ⌝ }
+    ensures fits { λ r. ⌜ (r ≡ true → (k : ℕ) → getD (mapped image) k 0 < 65536) ⌝ }
+    ensures rules { λ r. ⌜ (r ≡ true → Rules image) ⌝ }
+    ensures kept { λ r. ⌜ (Rules image → r ≡ true) ⌝ }
+    ensures found { λ r. ⌜ ((ns : List ℕ) → Map ns → image ≡ layout ns → r ≡ true) ⌝ }
+    ensures same { λ r. ⌜ ((ns : List ℕ) → Map ns → image ≡ layout ns → mapped image ≡ ns) ⌝ }
 {
-    let again = encoded(decoded(image));
+    let again = encoded(decoded(&image));
     again[..] == image[..]
 }
 

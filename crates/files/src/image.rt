@@ -1,7 +1,7 @@
 ghost use Prim.Native.Nat.{ℕ, _<_};
 ghost use lib.ListN.{getD};
 ghost use Rattle.files.specs.Layout.{mapped};
-ghost use Rattle.files.specs.Stores.{Laid};
+ghost use Rattle.files.specs.Laws.{Laid};
 
 mod methods;
 

@@ -5,7 +5,7 @@ ghost use Prim.Native.Nat.{ℕ, _<_};
 ghost use lib.ListN.{length, getD, set, replicate};
 ghost use Rattle.std.specs.Results.{isOk};
 ghost use Rattle.files.specs.Images.{shown, means, filling};
-ghost use Rattle.files.specs.Layout.{Map, layout, mapped};
+ghost use Rattle.files.specs.Layout.{Map, Rules, layout, mapped};
 use super::Image;
 use crate::codec::decoded;
 use crate::codec::encoded;
@@ -31,6 +31,8 @@ impl Image {
     pub fn fill(&mut self, bytes: &[u8]) -> Result<(), Refusal>
         ensures answer { λ r. ⌜ r ≡ filling (now (bytes .entry)) ⌝ }
         ensures after { λ r. ⌜ shown (now (self .exit)) ≡ cond (isOk r) (now (bytes .entry)) (shown (now (self .entry))) ⌝ }
+        ensures rules { λ r. ⌜ (isOk r ≡ true → Rules (now (bytes .entry))) ⌝ }
+        ensures kept { λ r. ⌜ (Rules (now (bytes .entry)) → isOk r ≡ true) ⌝ }
         ensures laid { λ r. ⌜ (isOk r ≡ true → now (bytes .entry) ≡ layout (means (now (self .exit)))) ⌝ }
         ensures found { λ r. ⌜ ((ns : List ℕ) → Map ns → now (bytes .entry) ≡ layout ns → isOk r ≡ true) ⌝ }
         ensures same { λ r. ⌜ ((ns : List ℕ) → Map ns → now (bytes .entry) ≡ layout ns → means (now (self .exit)) ≡ ns) ⌝ }
@@ -38,7 +40,7 @@ impl Image {
         let Some(image) = sized(bytes) else {
             return Err(Refusal::ImageSize);
         };
-        if !is_laid(&image) {
+        if !is_laid(image) {
             return Err(Refusal::ImageLayout);
         }
         self.bytes = image;

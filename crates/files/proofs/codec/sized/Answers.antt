@@ -10,5 +10,6 @@ returns-then-bytes-ne193 c =
     record {
       size = sym (ne-eqb _ _ (c .if-bytes-ne193 .taken));
       same = tt;
+      unruly = λ _ rules. c .if-bytes-ne193 .taken (rules .size);
       none = λ _ ns is e. c .if-bytes-ne193 .taken (ap length e ∙ layout-length ns (is .long));
     }
