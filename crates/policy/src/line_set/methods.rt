@@ -1,0 +1,87 @@
+ghost use mathlib.Core.Bool.{false, not, _&&_, _||_};
+ghost use mathlib.Core.Path.{_≡_};
+ghost use Prim.Native.Nat.{ℕ, min};
+ghost use lib.Dec.{eqb, ltb};
+ghost use Rattle.policy.specs.Lines.{has, leads, highest, Lowest};
+use super::LineSet;
+
+impl LineSet {
+    /// The set of no line.
+    pub fn new() -> LineSet
+        ensures { λ r. ⌜ ((k : ℕ) → has r k ≡ false) ⌝ }
+    {
+        LineSet { lines: [false; 64] }
+    }
+
+    /// The lines below a number.
+    pub fn below(count: u8) -> LineSet
+        ensures { λ r. ⌜ ((k : ℕ) → has r k ≡ ltb k (min count 64)) ⌝ }
+    {
+        let mut lines = [false; 64];
+        let end = if count < 64 { count } else { 64 };
+        for i in 0..end {
+            lines[i as usize] = true;
+        }
+        LineSet { lines }
+    }
+
+    /// A line is in the set.
+    pub fn has(&self, line: u8) -> bool
+        ensures { λ r. ⌜ r ≡ has (now (self .entry)) line ⌝ }
+    {
+        line < 64 && self.lines[line as usize]
+    }
+
+    /// Puts a line into the set. Numbers above 63 are no lines.
+    pub fn insert(&mut self, line: u8)
+        ensures { λ _. ⌜ ((k : ℕ) → has (now (self .exit)) k ≡ (has (now (self .entry)) k || (eqb k line && ltb k 64))) ⌝ }
+    {
+        if line < 64 {
+            self.lines[line as usize] = true;
+        }
+    }
+
+    /// Takes a line out of the set.
+    pub fn remove(&mut self, line: u8)
+        ensures { λ _. ⌜ ((k : ℕ) → has (now (self .exit)) k ≡ (has (now (self .entry)) k && not (eqb k line))) ⌝ }
+    {
+        if line < 64 {
+            self.lines[line as usize] = false;
+        }
+    }
+
+    /// The lowest line of the set, if it has any.
+    pub fn lowest(&self) -> Option<u8>
+        ensures { λ r. ⌜ Lowest (has (now (self .entry))) r ⌝ }
+    {
+        for i in 0..64u8 {
+            if self.lines[i as usize] {
+                return Some(i);
+            }
+        }
+        None
+    }
+
+    /// A line is the lowest of the set.
+    pub fn leads(&self, line: u8) -> bool
+        ensures { λ r. ⌜ r ≡ leads (has (now (self .entry))) line ⌝ }
+    {
+        match self.lowest() {
+            Some(lowest) => lowest == line,
+            None => false,
+        }
+    }
+
+    /// The highest line of the set, or the one given if it has none.
+    pub fn highest_or(&self, default: u8) -> u8
+        ensures { λ r. ⌜ r ≡ highest (has (now (self .entry))) 64 default ⌝ }
+    {
+        let mut best = default;
+        for i in 0..64u8 {
+            if self.lines[i as usize] {
+                best = i;
+            }
+        }
+        best
+    }
+}
