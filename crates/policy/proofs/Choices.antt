@@ -1,13 +1,15 @@
 -- What is settled by patience is an answer of a policy's meaning, and a choice that is in the set is taken.
 use mathlib.Core.Bool.{Bool, true, false, cond, not, _&&_}
+use mathlib.Core.Logic.{⊎-elim}
 use mathlib.Core.Path.{_≡_, refl, sym, ap, _∙_}
 use Prim.Native.Nat.{ℕ, zero, suc, _+_, _≤_}
 use lib.Dec.{eqb}
-use Rattle.std.proofs.shelf.Tests.{and-parts, and-from, not-true, eqb-false, cond-true}
+use Rattle.std.proofs.shelf.Tests.{cases-bool, and-parts, and-from, not-true, not-from-false, eqb-false, cond-true}
 use Rattle.model.specs.Policies.{Answered}
-use Rattle.policy.specs.Lines.{leads, highest}
-use Rattle.policy.specs.Choices.{may-pass, answer}
-use Rattle.policy.proofs.Lines.{leads-to}
+use Rattle.policy.specs.Lines.{some-below, leads, highest}
+use Rattle.policy.specs.Choices.{may-pass, answer, highest-first, last-run}
+use Rattle.policy.specs.Waiting.{free}
+use Rattle.policy.proofs.Lines.{some-to, leads-to}
 
 module _ (set : ℕ → Bool) (front patience passes : ℕ) where
   -- the front was passed by
@@ -44,3 +46,28 @@ highest-is P test (suc n) d h o = by (test n) refl (highest-is P test n d h o)
     by : (b : Bool) → test n ≡ b → P (highest test n d) → P (cond b n (highest test n d))
     by true e rest = h n e
     by false e rest = rest
+
+-- what each policy settles on is what it is to answer
+pub highest-first-taken : (set : ℕ → Bool) (front patience passes line choice : ℕ) → line ≡ answer set front patience passes choice → choice ≡ highest set 64 front → line ≡ highest-first set front patience passes
+highest-first-taken set front patience passes line choice e c =
+    chosen set front patience passes line choice (highest set 64 front) e c (λ l. highest-is (λ k. set k ≡ true) set 64 front (λ k h. h) (leads-to set front l .member))
+
+pub last-run-taken : (waiting : ℕ → ℕ → Bool) (set : ℕ → Bool) (front patience passes line choice : ℕ) → line ≡ answer set front patience passes choice → choice ≡ highest (free waiting set) 64 front → line ≡ last-run waiting set front patience passes
+last-run-taken waiting set front patience passes line choice e c =
+    chosen set front patience passes line choice (highest (free waiting set) 64 front) e c
+    (λ l. highest-is (λ k. set k ≡ true) (free waiting set) 64 front (λ k h. and-parts (set k) (not (some-below (λ m. set m && waiting k m) k)) h .0) (leads-to set front l .member))
+
+-- the front of a set waits on no line of it
+pub front-free : (waiting : ℕ → ℕ → Bool) (set : ℕ → Bool) (front : ℕ) → leads set front ≡ true → free waiting set front ≡ true
+front-free waiting set front h =
+    let f = leads-to set front h in
+    and-from _ _ (f .member) (not-from-false _ (⊎-elim
+    (λ e. let s = some-to (λ k. set k && waiting front k) front e in absurd (f .lowest (s .0) (s .1) (and-parts (set (s .0)) (waiting front (s .0)) (s .2) .0)))
+    (λ e. e)
+    (cases-bool (some-below (λ k. set k && waiting front k) front))))
+
+-- where the front may be passed by, what the last-run policy answers waits on no line of the set
+pub last-run-free : (waiting : ℕ → ℕ → Bool) (set : ℕ → Bool) (front patience passes line : ℕ) → line ≡ last-run waiting set front patience passes → may-pass set front patience passes ≡ true → free waiting set line ≡ true
+last-run-free waiting set front patience passes line e may =
+    let l = and-parts (not (eqb passes patience)) (leads set front) may .1 in
+    rw (e, may) (highest-is (λ k. free waiting set k ≡ true) (free waiting set) 64 front (λ k f. f) (front-free waiting set front l))

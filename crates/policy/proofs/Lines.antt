@@ -10,7 +10,7 @@ use lib.Dec.{eqb, ltb}
 use lib.ListN.{length, getD, set, replicate}
 use lib.Seq.{getD-set-same, getD-set-other}
 use Rattle.std.proofs.shelf.Lists.{getD-past}
-use Rattle.std.proofs.shelf.Tests.{cases-eq, cases-order, cases-bool, both-ways, and-from, and-parts, not-from-false, not-true, or-left, or-right, or-cases, lt-ltb, le-ltb, eq-eqb, ne-eqb}
+use Rattle.std.proofs.shelf.Tests.{cases-eq, cases-order, cases-bool, both-ways, and-from, and-parts, not-from-false, not-true, or-left, or-right, or-cases, or-from, lt-ltb, le-ltb, eq-eqb, ne-eqb}
 use Rattle.std.proofs.shelf.Ways.{tells}
 use Rattle.model.specs.Policies.{Front}
 use Rattle.policy.specs.Lines.{some-below, leads, highest}
@@ -53,6 +53,9 @@ pub some-from : (test : ℕ → Bool) (n k : ℕ) → k < n → test k ≡ true 
 some-from test zero k l h = absurd (omega arith)
 some-from test (suc n) k l h = ⊎-elim (λ e. or-left _ _ (rw e at h)) (λ ne. or-right _ _ (some-from test n k (omega arith) h)) (cases-eq k n)
 
+pub some-more : (test : ℕ → Bool) (i : ℕ) → some-below test i ≡ false → test i ≡ false → some-below test (i + 1) ≡ false
+some-more test i h e = rw (add-one i) (or-from _ _ e h)
+
 pub some-to : (test : ℕ → Bool) (n : ℕ) → some-below test n ≡ true → (k : ℕ) × (k < n) × (test k ≡ true)
 some-to test zero h = absurd (both-ways _ refl h)
 some-to test (suc n) h = ⊎-elim
@@ -86,13 +89,13 @@ leads-is set f g h = ⊎-elim
 pub leads-none : (set : ℕ → Bool) (g : ℕ) → ((k : ℕ) → set k ≡ true → ⊥) → false ≡ leads set g
 leads-none set g h = sym (⊎-elim (λ e. absurd (h g (leads-to set g e .member))) (λ e. e) (cases-bool (leads set g)))
 
+pub and-true : (b : Bool) → (b && true) ≡ b
+and-true true = refl
+and-true false = refl
+
 -- a number past the end is not taken out
 pub none-out : (xs : List Bool) (i : ℕ) → length xs ≤ i → (k : ℕ) → getD xs k false ≡ (getD xs k false && not (eqb k i))
 none-out xs i l k = ⊎-elim
     (λ e. let past : getD xs k false ≡ false = getD-past xs k false (omega arith) in rw past refl)
     (λ ne. rw (ne-eqb k i ne) (sym (and-true (getD xs k false))))
     (cases-eq k i)
-  where
-    and-true : (b : Bool) → (b && true) ≡ b
-    and-true true = refl
-    and-true false = refl

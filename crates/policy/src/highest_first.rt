@@ -1,9 +1,8 @@
-ghost use mathlib.Core.Bool.{cond};
 ghost use mathlib.Core.Path.{_≡_};
 ghost use Prim.Native.Nat.{min};
 ghost use Rattle.model.specs.Policies.{Answered};
-ghost use Rattle.policy.specs.Choices.{may-pass};
-ghost use Rattle.policy.specs.Lines.{has, highest};
+ghost use Rattle.policy.specs.Choices.{highest-first};
+ghost use Rattle.policy.specs.Lines.{has};
 use crate::line_set::LineSet;
 use crate::patience::Patience;
 use crate::policy::Policy;
@@ -34,7 +33,7 @@ pub impl Policy for HighestFirst as HighestFirstPolicy {
     fn ask(&mut self, among: &LineSet, front: u8) -> u8
         ensures answers { λ r. ⌜ Answered (has (now (among .entry))) front r (record { patience = now (self .entry) .patience .limit; before = now (self .entry) .patience .passes; after = now (self .exit) .patience .passes }) ⌝ }
         ensures same { λ _. ⌜ now (self .exit) .patience .limit ≡ now (self .entry) .patience .limit ⌝ }
-        ensures line { λ r. ⌜ r ≡ cond (may-pass (has (now (among .entry))) front (now (self .entry) .patience .limit) (now (self .entry) .patience .passes)) (highest (has (now (among .entry))) 64 front) front ⌝ }
+        ensures line { λ r. ⌜ r ≡ highest-first (has (now (among .entry))) front (now (self .entry) .patience .limit) (now (self .entry) .patience .passes) ⌝ }
     {
         let choice = among.highest_or(front);
         self.patience.settle(among, front, choice)

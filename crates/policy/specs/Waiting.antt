@@ -1,0 +1,63 @@
+-- Who waits on whom, as the records of the last run tell.
+use mathlib.Core.Bool.{Bool, true, false, cond, not, _&&_, _||_}
+use mathlib.Core.List.{List, [], _∷_}
+use Prim.Native.Nat.{ℕ, _+_, _*_}
+use lib.Dec.{eqb, ltb, leb}
+use lib.ListN.{getD}
+use Rattle.std.specs.declared.option.Option.{Option}
+use Rattle.std.specs.declared.option.Option.the-variants.{Some, None}
+use Rattle.std.specs.shelf.Maps.{nth}
+use Rattle.model.specs.Numbers.{kind-number}
+use Rattle.model.specs.Records.{Record}
+use Rattle.model.specs.declared.command.Command.{Command}
+use Rattle.model.specs.declared.record.Standing.{Standing}
+use Rattle.model.specs.declared.record.Standing.the-variants.{Hint, Own, Struck}
+use Rattle.model.specs.declared.record.Use.{Use}
+use Rattle.policy.specs.Lines.{some-below}
+use Rattle.policy.specs.declared.waits.Waits.{Waits}
+
+-- two commands are the same
+abbrev pub same-command : Command → Command → Bool
+same-command c d = eqb (kind-number (c .kind)) (kind-number (d .kind)) && eqb (c .a) (d .a) && eqb (c .b) (d .b) && eqb (c .c) (d .c) && eqb (c .d) (d .d)
+
+-- a record, which counts as none if it is struck
+abbrev pub unless-struck : Standing → Record → Option Record
+unless-struck Hint r = Some r
+unless-struck Own r = Some r
+unless-struck Struck r = None
+
+-- the record of a command
+abbrev pub record-of : Command → List Record → Option Record
+record-of c [] = None
+record-of c (r ∷ rs) = cond (same-command c (r .command)) (unless-struck (r .standing) r) (record-of c rs)
+
+-- the record that a line finds; what is no line of the script has no command, and so no record
+abbrev pub finds-by : List Record → Option Command → Option Record
+finds-by rs None = None
+finds-by rs (Some c) = record-of c rs
+
+abbrev pub finds : List Command → List Record → ℕ → Option Record
+finds cs rs line = finds-by rs (nth cs line)
+
+-- one of the reads is of the file
+abbrev pub reads-file : ℕ → List Use → Bool
+reads-file f [] = false
+reads-file f (u ∷ us) = eqb f (u .file) || reads-file f us
+
+-- by their records, a line waits on an earlier one: a line without a record does, one with a record never waits on one without
+abbrev pub waits-by : Option Record → Option Record → Bool
+waits-by None earlier = true
+waits-by (Some r) None = false
+waits-by (Some r) (Some e) = reads-file (e .write .file) (r .reads)
+
+-- a line waits on another line
+abbrev pub waits-on : List Command → List Record → ℕ → ℕ → Bool
+waits-on cs rs line earlier = ltb earlier line && waits-by (finds cs rs line) (finds cs rs earlier)
+
+-- who waits on whom in a table with 64 places a line; what is no line waits on all earlier ones
+abbrev pub waits : Waits → ℕ → ℕ → Bool
+waits w line earlier = ltb earlier line && (leb 64 line || getD (w .table) (line * 64 + earlier) false)
+
+-- a line of the set that waits on no line of it
+abbrev pub free : (ℕ → ℕ → Bool) → (ℕ → Bool) → ℕ → Bool
+free waiting set line = set line && not (some-below (λ earlier. set earlier && waiting line earlier) line)
