@@ -22,7 +22,7 @@ use Rattle.model.specs.declared.command.Command.{Command}
 use Rattle.model.specs.declared.record.Record as Code
 use Rattle.model.specs.declared.record.Use.{Use}
 use Rattle.policy.specs.Lines.{some-below}
-use Rattle.policy.specs.Waiting.{same-command, unless-struck, record-of, finds-by, finds, reads-file, waits-by, waits-on}
+use Rattle.policy.specs.Waiting.{same-command, record-of, finds-by, finds, reads-file, waits-by, waits-on}
 use Rattle.policy.proofs.Lines.{some-from, some-more, and-true}
 
 -- the record of a command: what is left of the records gives it
@@ -31,7 +31,7 @@ told-of c rs = record-of c (map said rs)
 
 module _ (c : Command) (rs : List Code.Record) (i : ℕ) (d : Code.Record) (inv : told-of c (drop i rs) ≡ told-of c rs) where
   abbrev one : Option Record
-  one = unless-struck (getD rs i d .standing) (said (getD rs i d))
+  one = Some (said (getD rs i d))
 
   pub record-here : i < length rs → true ≡ same-command c (getD rs i d .command) → one ≡ told-of c rs
   record-here h e = ap (λ b. cond b one (told-of c (drop (i + 1) rs))) e ∙ sym (at-drop-more (told-of c) rs i d h) ∙ inv

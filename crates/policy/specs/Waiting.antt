@@ -20,21 +20,25 @@ use Rattle.policy.specs.declared.waits.Waits.{Waits}
 abbrev pub same-command : Command → Command → Bool
 same-command c d = eqb (kind-number (c .kind)) (kind-number (d .kind)) && eqb (c .a) (d .a) && eqb (c .b) (d .b) && eqb (c .c) (d .c) && eqb (c .d) (d .d)
 
--- a record, which counts as none if it is struck
-abbrev pub unless-struck : Standing → Record → Option Record
-unless-struck Hint r = Some r
-unless-struck Own r = Some r
-unless-struck Struck r = None
-
 -- the record of a command
 abbrev pub record-of : Command → List Record → Option Record
 record-of c [] = None
-record-of c (r ∷ rs) = cond (same-command c (r .command)) (unless-struck (r .standing) r) (record-of c rs)
+record-of c (r ∷ rs) = cond (same-command c (r .command)) (Some r) (record-of c rs)
+
+-- a record counts as none if it is struck
+abbrev pub by-standing : Standing → Record → Option Record
+by-standing Hint r = Some r
+by-standing Own r = Some r
+by-standing Struck r = None
+
+abbrev pub unless-struck : Option Record → Option Record
+unless-struck None = None
+unless-struck (Some r) = by-standing (r .standing) r
 
 -- the record that a line finds; what is no line of the script has no command, and so no record
 abbrev pub finds-by : List Record → Option Command → Option Record
 finds-by rs None = None
-finds-by rs (Some c) = record-of c rs
+finds-by rs (Some c) = unless-struck (record-of c rs)
 
 abbrev pub finds : List Command → List Record → ℕ → Option Record
 finds cs rs line = finds-by rs (nth cs line)

@@ -15,26 +15,27 @@ fn same_command(a: Command, b: Command) -> bool
     a.kind.number() == b.kind.number() && a.a == b.a && a.b == b.b && a.c == b.c && a.d == b.d
 }
 
-/// A record, which counts as none if it is struck.
-fn unless_struck(candidate: &Record) -> Option<Record>
-    ensures { λ r. ⌜ mapped said r ≡ unless-struck (now (candidate .entry) .standing) (said (now (candidate .entry))) ⌝ }
-{
-    match candidate.standing {
-        Standing::Hint | Standing::Own => Some(*candidate),
-        Standing::Struck => None,
-    }
-}
-
 /// The record of a command.
 fn record_of(records: &[Record], command: Command) -> Option<Record>
     ensures { λ r. ⌜ mapped said r ≡ record-of command (map said (now (records .entry))) ⌝ }
 {
     for candidate in records {
         if same_command(command, candidate.command) {
-            return unless_struck(candidate);
+            return Some(*candidate);
         }
     }
     None
+}
+
+/// A record counts as none if it is struck.
+fn unless_struck(candidate: Option<Record>) -> Option<Record>
+    ensures { λ r. ⌜ mapped said r ≡ unless-struck (mapped said candidate) ⌝ }
+{
+    let candidate = candidate?;
+    match candidate.standing {
+        Standing::Hint | Standing::Own => Some(candidate),
+        Standing::Struck => None,
+    }
 }
 
 /// The record that a line finds.
@@ -42,7 +43,7 @@ pub fn found(commands: &[Command], records: &[Record], line: usize) -> Option<Re
     ensures { λ r. ⌜ mapped said r ≡ finds (now (commands .entry)) (map said (now (records .entry))) line ⌝ }
 {
     if line < commands.len() {
-        record_of(records, commands[line])
+        unless_struck(record_of(records, commands[line]))
     } else {
         None
     }

@@ -1,11 +1,10 @@
 -- The first record of the command is the one.
-use mathlib.Core.Path.{_∙_}
 use Rattle.policy.proofs.Waiting.{record-here, record-more, record-none}
 use Rattle.policy.proofs.waits.found.record_of.Needs as need
 
 pub returns-then-same-command : need.returns-then-same-command
 returns-then-same-command c =
-    c .unless-struck .ensures ∙ record-here (c .args .command) (c .args .records .now) (c .loop-candidate .candidate-index) _ (c .loop-candidate .inv) (c .loop-candidate-test .taken) (c .if-same-command .ensures tt)
+    record-here (c .args .command) (c .args .records .now) (c .loop-candidate .candidate-index) _ (c .loop-candidate .inv) (c .loop-candidate-test .taken) (c .if-same-command .ensures tt)
 
 pub loop-candidate-again : need.loop-candidate-again
 loop-candidate-again c =
