@@ -14,6 +14,7 @@ pub use last_run::LastRunPolicy;
 pub use line_set::LineSet;
 pub use patience::Patience;
 pub use policy::Policy;
+pub use policy::passes_until_front;
 pub use script_order::ScriptOrder;
 pub use script_order::ScriptOrderPolicy;
 pub use waits::Waits;

@@ -1,5 +1,6 @@
 ghost use mathlib.Core.Path.{_≡_};
-ghost use Prim.Native.Nat.{ℕ, _≤_};
+ghost use Prim.Native.Nat.{ℕ, _+_, _≤_};
+ghost use Rattle.model.specs.Asks.{Asks, number, fronts};
 ghost use Rattle.model.specs.Policies.{Answered};
 ghost use Rattle.policy.specs.Lines.{has};
 use crate::line_set::LineSet;
@@ -20,4 +21,19 @@ pub trait Policy {
     fn ask(&mut self, among: &LineSet, front: u8) -> u8
         ensures answers { λ r. ⌜ Answered (has (now (among .entry))) front r (record { patience = patience (now (self .entry)); before = passes (now (self .entry)); after = passes (now (self .exit)) }) ⌝ }
         ensures same { λ _. ⌜ patience (now (self .exit)) ≡ patience (now (self .entry)) ⌝ };
+}
+
+/// Asks a policy with one set and one front until it answers the front, and tells how often it passed the front by.
+pub fn passes_until_front<P: Policy>(policy: &mut P, among: &LineSet, front: u8) -> u8
+    ensures bound { λ r. ⌜ r ≤ P·Policy .patience (now (policy .entry)) ⌝ }
+    ensures asks { λ r. ⌜ ((h : Asks (P·Policy .patience (now (policy .entry))) front (P·Policy .passes (now (policy .entry))) (P·Policy .passes (now (policy .exit)))) × (number h ≡ r + 1) × (fronts h ≡ 1)) ⌝ }
+    ensures passes { λ _. ⌜ P·Policy .passes (now (policy .exit)) ≡ 0 ⌝ }
+    ensures same { λ _. ⌜ P·Policy .patience (now (policy .exit)) ≡ P·Policy .patience (now (policy .entry)) ⌝ }
+{
+    for passed in 0..33u8 {
+        if policy.ask(among, front) == front {
+            return passed;
+        }
+    }
+    unreachable()
 }
