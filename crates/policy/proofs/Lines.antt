@@ -39,14 +39,9 @@ pub highest-none : (test : ℕ → Bool) (d : ℕ) → d ≡ highest test 0 d
 unfolding highest
 highest-none test d = refl
 
-module _ (test : ℕ → Bool) (i d best : ℕ) (inv : best ≡ highest test i d) where
-  pub highest-yes : true ≡ test i → i ≡ highest test (i + 1) d
-  unfolding highest
-  highest-yes e = rw (add-one i, ← e) refl
-
-  pub highest-no : false ≡ test i → best ≡ highest test (i + 1) d
-  unfolding highest
-  highest-no e = rw (add-one i, ← e) inv
+pub highest-more : (test : ℕ → Bool) (i d best next : ℕ) → best ≡ highest test i d → next ≡ cond (test i) i best → next ≡ highest test (i + 1) d
+unfolding highest
+highest-more test i d best next inv e = rw (add-one i) (e ∙ ap (cond (test i) i) inv)
 
 -- a line below n passes the test
 pub some-from : (test : ℕ → Bool) (n k : ℕ) → k < n → test k ≡ true → some-below test n ≡ true
@@ -63,31 +58,10 @@ some-to test (suc n) h = ⊎-elim
     (λ e. let s = some-to test n e in (s .0, omega (arith, s .1), s .2))
     (or-cases (test n) (some-below test n) h)
 
-pub leads-from : (set : ℕ → Bool) (f : ℕ) → Front set f → leads set f ≡ true
-leads-from set f h = and-from _ _ (h .member) (not-from-false _ (⊎-elim
-    (λ e. let s = some-to set f e in absurd (h .lowest (s .0) (s .1) (s .2)))
-    (λ e. e)
-    (cases-bool (some-below set f))))
-
 pub leads-to : (set : ℕ → Bool) (f : ℕ) → leads set f ≡ true → Front set f
 leads-to set f h =
     let p = and-parts (set f) (not (some-below set f)) h in
     record { member = p .0; lowest = λ k l e. both-ways _ (not-true _ (p .1)) (some-from set f k l e) }
-
--- two lowest lines are one
-pub one-front : (set : ℕ → Bool) (f g : ℕ) → Front set f → leads set g ≡ true → f ≡ g
-one-front set f g h k =
-    let l = leads-to set g k in
-    ⊎-elim (λ e. e) (⊎-elim (λ lt. absurd (l .lowest f lt (h .member))) (λ lt. absurd (h .lowest g lt (l .member)))) (cases-order f g)
-
-pub leads-is : (set : ℕ → Bool) (f g : ℕ) → Front set f → eqb f g ≡ leads set g
-leads-is set f g h = ⊎-elim
-    (λ e. eq-eqb f g e ∙ sym (rw (sym e) (leads-from set f h)))
-    (λ ne. ne-eqb f g ne ∙ sym (⊎-elim (λ e. absurd (ne (one-front set f g h e))) (λ e. e) (cases-bool (leads set g))))
-    (cases-eq f g)
-
-pub leads-none : (set : ℕ → Bool) (g : ℕ) → ((k : ℕ) → set k ≡ true → ⊥) → false ≡ leads set g
-leads-none set g h = sym (⊎-elim (λ e. absurd (h g (leads-to set g e .member))) (λ e. e) (cases-bool (leads set g)))
 
 pub and-true : (b : Bool) → (b && true) ≡ b
 and-true true = refl

@@ -1,7 +1,7 @@
 -- Who waits on whom: one step of the loops over records and their reads.
 use mathlib.Core.Bool.{Bool, true, false, cond, not, _&&_, _||_}
 use mathlib.Core.List.{List, [], _∷_, map}
-use mathlib.Core.Logic.{_≢_, _⊎_, ⊎-elim}
+use mathlib.Core.Logic.{_≢_, ⊎-elim}
 use mathlib.Core.Path.{_≡_, refl, sym, ap, _∙_}
 use Prim.Native.Nat.{ℕ, zero, suc, _+_, _*_, _/_, _%_, _<_, _≤_}
 use native.Mathlib.Omega.{arith}
@@ -12,7 +12,7 @@ use lib.Seq.{getD-set-same, getD-set-other}
 use Rattle.std.proofs.shelf.Edits.{fill-by-more}
 use Rattle.std.proofs.shelf.Lists.{at-drop-more, at-drop-all, length-take}
 use Rattle.std.proofs.shelf.Maps.{nth-past}
-use Rattle.std.proofs.shelf.Tests.{cases-lt, lt-ltb, le-ltb, lt-leb, le-leb, and-from, and-left, and-right, not-from-true}
+use Rattle.std.proofs.shelf.Tests.{cases-lt, lt-ltb, le-ltb, lt-leb, le-leb, and-right, not-from-true}
 use Rattle.std.specs.Options.{mapped}
 use Rattle.std.specs.declared.option.Option.{Option}
 use Rattle.std.specs.declared.option.Option.the-variants.{Some, None}
@@ -22,8 +22,8 @@ use Rattle.model.specs.declared.command.Command.{Command}
 use Rattle.model.specs.declared.record.Record as Code
 use Rattle.model.specs.declared.record.Use.{Use}
 use Rattle.policy.specs.Lines.{some-below}
-use Rattle.policy.specs.Waiting.{same-command, record-of, finds-by, finds, reads-file, waits-by, waits-on}
-use Rattle.policy.proofs.Lines.{some-from, some-more, and-true}
+use Rattle.policy.specs.Waiting.{same-command, record-of, finds-by, finds, reads-file, waits-by, waits-at, waits-on}
+use Rattle.policy.proofs.Lines.{some-from, and-true}
 
 -- the record of a command: what is left of the records gives it
 abbrev pub told-of : Command → List Code.Record → Option Record
@@ -58,10 +58,6 @@ pub found-more : (f : ℕ → Option Record) (all : List (Option Code.Record)) (
 found-more f all i x l below e = below-more _ i
     (λ k h. let ne : k ≢ i = omega arith in ap (mapped said) (getD-set-other all i k x None ne) ∙ below k h)
     (ap (mapped said) (getD-set-same all i x None l) ∙ e)
-
--- who waits on whom by the place in a table of 64 places a line, given what each line finds
-abbrev pub waits-at : List (Option Code.Record) → ℕ → Bool
-waits-at all at = waits-by (mapped said (getD all (at / 64) None)) (mapped said (getD all (at % 64) None))
 
 -- one more place is filled
 pub filled : (all : List (Option Code.Record)) (table : List Bool) (i : ℕ) (b : Bool) → i < length table → ((k : ℕ) → k < i → getD table k false ≡ waits-at all k) → b ≡ waits-at all i → (k : ℕ) → k < i + 1 → getD (set table i b) k false ≡ waits-at all k
@@ -103,16 +99,12 @@ module _ (cs : List Command) (rs : List Record) (all : List (Option Code.Record)
         (λ le. rw (le-ltb earlier line le) refl)
         (cases-lt earlier line)
 
--- a line of a set that waits on a line of it, or on none
-module _ (set waiting : ℕ → Bool) (line : ℕ) where
-  pub waits-some : (k : ℕ) → k < line → true ≡ set k → true ≡ waiting k → false ≡ (set line && not (some-below (λ e. set e && waiting e) line))
-  waits-some k lt s w =
-      sym (and-right (set line) _ (not-from-true _ (some-from (λ e. set e && waiting e) line k lt (and-from _ _ (sym s) (sym w)))))
+-- a line that is held up by one below it, or by none
+module _ (set held : ℕ → Bool) (line : ℕ) where
+  pub held-some : (k : ℕ) → k < line → true ≡ held k → false ≡ (set line && not (some-below held line))
+  held-some k lt h = sym (and-right (set line) _ (not-from-true _ (some-from held line k lt (sym h))))
 
-  pub waits-more : (k : ℕ) → some-below (λ e. set e && waiting e) k ≡ false → (false ≡ set k) ⊎ (false ≡ waiting k) → some-below (λ e. set e && waiting e) (k + 1) ≡ false
-  waits-more k none either = some-more (λ e. set e && waiting e) k none (⊎-elim (λ s. and-left _ _ (sym s)) (λ w. and-right _ _ (sym w)) either)
-
-  pub waits-none : (k : ℕ) → k ≡ line → some-below (λ e. set e && waiting e) k ≡ false → (member : Bool) → member ≡ set line → member ≡ (set line && not (some-below (λ e. set e && waiting e) line))
-  waits-none k e none member m =
-      let here : some-below (λ e. set e && waiting e) line ≡ false = rw e at none in
+  pub held-none : (k : ℕ) → k ≡ line → some-below held k ≡ false → (member : Bool) → member ≡ set line → member ≡ (set line && not (some-below held line))
+  held-none k e none member m =
+      let here : some-below held line ≡ false = rw e at none in
       rw here (m ∙ sym (and-true (set line)))

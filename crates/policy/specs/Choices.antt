@@ -9,14 +9,18 @@ use Rattle.policy.specs.Waiting.{free}
 abbrev pub may-pass : (ℕ → Bool) → ℕ → ℕ → ℕ → Bool
 may-pass set front patience passes = not (eqb passes patience) && leads set front
 
--- the answer of a policy that would choose any line, in the set or not
+-- its choice is taken: it may pass the front by, and the choice is in the set
+abbrev pub takes : (ℕ → Bool) → ℕ → ℕ → ℕ → ℕ → Bool
+takes set front patience passes choice = may-pass set front patience passes && set choice
+
+-- the answer of a policy that would choose a line
 abbrev pub answer : (ℕ → Bool) → ℕ → ℕ → ℕ → ℕ → ℕ
-answer set front patience passes choice = cond (may-pass set front patience passes && set choice) choice front
+answer set front patience passes choice = cond (takes set front patience passes choice) choice front
 
 -- the highest-first policy: the highest line of the set
 abbrev pub highest-first : (ℕ → Bool) → ℕ → ℕ → ℕ → ℕ
-highest-first set front patience passes = cond (may-pass set front patience passes) (highest set 64 front) front
+highest-first set front patience passes = answer set front patience passes (highest set 64 front)
 
--- the last-run policy: the highest line of the set that waits on no line of it. There is always one: the lowest line of a set waits on none of it.
+-- the last-run policy: the highest line of the set that waits on no line of it. There is always one: the lowest line of a set, its front, waits on none of it.
 abbrev pub last-run : (ℕ → ℕ → Bool) → (ℕ → Bool) → ℕ → ℕ → ℕ → ℕ
-last-run waiting set front patience passes = cond (may-pass set front patience passes) (highest (free waiting set) 64 front) front
+last-run waiting set front patience passes = answer set front patience passes (highest (free waiting set) 64 front)

@@ -1,15 +1,17 @@
 -- Who waits on whom, as the records of the last run tell.
 use mathlib.Core.Bool.{Bool, true, false, cond, not, _&&_, _||_}
 use mathlib.Core.List.{List, [], _∷_}
-use Prim.Native.Nat.{ℕ, _+_, _*_}
+use Prim.Native.Nat.{ℕ, _+_, _*_, _/_, _%_}
 use lib.Dec.{eqb, ltb, leb}
 use lib.ListN.{getD}
+use Rattle.std.specs.Options.{mapped}
 use Rattle.std.specs.declared.option.Option.{Option}
 use Rattle.std.specs.declared.option.Option.the-variants.{Some, None}
 use Rattle.std.specs.shelf.Maps.{nth}
 use Rattle.model.specs.Numbers.{kind-number}
-use Rattle.model.specs.Records.{Record}
+use Rattle.model.specs.Records.{Record, said}
 use Rattle.model.specs.declared.command.Command.{Command}
+use Rattle.model.specs.declared.record.Record as Code
 use Rattle.model.specs.declared.record.Standing.{Standing}
 use Rattle.model.specs.declared.record.Standing.the-variants.{Hint, Own, Struck}
 use Rattle.model.specs.declared.record.Use.{Use}
@@ -58,10 +60,18 @@ waits-by (Some r) (Some e) = reads-file (e .write .file) (r .reads)
 abbrev pub waits-on : List Command → List Record → ℕ → ℕ → Bool
 waits-on cs rs line earlier = ltb earlier line && waits-by (finds cs rs line) (finds cs rs earlier)
 
+-- the same by the place in a table with 64 places a line, given what each line finds
+abbrev pub waits-at : List (Option Code.Record) → ℕ → Bool
+waits-at all at = waits-by (mapped said (getD all (at / 64) None)) (mapped said (getD all (at % 64) None))
+
 -- who waits on whom in a table with 64 places a line; what is no line waits on all earlier ones
 abbrev pub waits : Waits → ℕ → ℕ → Bool
 waits w line earlier = ltb earlier line && (leb 64 line || getD (w .table) (line * 64 + earlier) false)
 
+-- a line is held up by another: that one is in the set, and it waits on it
+abbrev pub held-up : (ℕ → ℕ → Bool) → (ℕ → Bool) → ℕ → ℕ → Bool
+held-up waiting set line earlier = set earlier && waiting line earlier
+
 -- a line of the set that waits on no line of it
 abbrev pub free : (ℕ → ℕ → Bool) → (ℕ → Bool) → ℕ → Bool
-free waiting set line = set line && not (some-below (λ earlier. set earlier && waiting line earlier) line)
+free waiting set line = set line && not (some-below (held-up waiting set line) line)

@@ -1,13 +1,12 @@
-ghost use mathlib.Core.Bool.{true};
 ghost use mathlib.Core.List.{map};
 ghost use mathlib.Core.Path.{_≡_};
 ghost use Prim.Native.Nat.{ℕ, min};
 ghost use lib.ListN.{take};
 ghost use Rattle.model.specs.Policies.{Answered};
 ghost use Rattle.model.specs.Records.{said};
-ghost use Rattle.policy.specs.Choices.{may-pass, last-run};
+ghost use Rattle.policy.specs.Choices.{last-run};
 ghost use Rattle.policy.specs.Lines.{has};
-ghost use Rattle.policy.specs.Waiting.{waits, waits-on, free};
+ghost use Rattle.policy.specs.Waiting.{waits, waits-on};
 use crate::line_set::LineSet;
 use crate::patience::Patience;
 use crate::policy::Policy;
@@ -45,7 +44,6 @@ pub impl Policy for LastRun as LastRunPolicy {
         ensures answers { λ r. ⌜ Answered (has (now (among .entry))) front r (record { patience = now (self .entry) .patience .limit; before = now (self .entry) .patience .passes; after = now (self .exit) .patience .passes }) ⌝ }
         ensures same { λ _. ⌜ now (self .exit) .patience .limit ≡ now (self .entry) .patience .limit ⌝ }
         ensures line { λ r. ⌜ r ≡ last-run (waits (now (self .entry) .waits)) (has (now (among .entry))) front (now (self .entry) .patience .limit) (now (self .entry) .patience .passes) ⌝ }
-        ensures free { λ r. ⌜ (may-pass (has (now (among .entry))) front (now (self .entry) .patience .limit) (now (self .entry) .patience .passes) ≡ true → free (waits (now (self .entry) .waits)) (has (now (among .entry))) r ≡ true) ⌝ }
         ensures waits { λ _. ⌜ now (self .exit) .waits ≡ now (self .entry) .waits ⌝ }
     {
         let choice = self.waits.highest_free(among, front);

@@ -1,7 +1,7 @@
 ghost use mathlib.Core.Path.{_≡_};
 ghost use Prim.Native.Nat.{min, _≤_};
 ghost use Rattle.model.specs.Policies.{Answered};
-ghost use Rattle.policy.specs.Choices.{may-pass, answer};
+ghost use Rattle.policy.specs.Choices.{may-pass, takes, answer};
 ghost use Rattle.policy.specs.Lines.{has};
 use crate::line_set::LineSet;
 
@@ -34,6 +34,13 @@ impl Patience {
         !due && among.leads(front)
     }
 
+    /// A choice is taken: the front may be passed by, and the choice is in the set.
+    fn takes(&self, among: &LineSet, front: u8, choice: u8) -> bool
+        ensures { λ r. ⌜ r ≡ takes (has (now (among .entry))) front (now (self .entry) .limit) (now (self .entry) .passes) choice ⌝ }
+    {
+        self.may_pass(among, front) && among.has(choice)
+    }
+
     /// The answer of a policy that would choose a line, with the pass counted. The choice is not taken if the front may
     /// not be passed by or the choice is not in the set.
     pub fn settle(&mut self, among: &LineSet, front: u8, choice: u8) -> u8
@@ -41,7 +48,7 @@ impl Patience {
         ensures answers { λ r. ⌜ Answered (has (now (among .entry))) front r (record { patience = now (self .entry) .limit; before = now (self .entry) .passes; after = now (self .exit) .passes }) ⌝ }
         ensures same { λ _. ⌜ now (self .exit) .limit ≡ now (self .entry) .limit ⌝ }
     {
-        if choice != front && self.may_pass(among, front) && among.has(choice) {
+        if choice != front && self.takes(among, front, choice) {
             self.passes += 1;
             choice
         } else {

@@ -1,8 +1,8 @@
-ghost use mathlib.Core.Bool.{false, not, _&&_, _||_};
+ghost use mathlib.Core.Bool.{false, cond, not, _&&_, _||_};
 ghost use mathlib.Core.Path.{_≡_};
 ghost use Prim.Native.Nat.{ℕ, min};
 ghost use lib.Dec.{eqb, ltb};
-ghost use Rattle.policy.specs.Lines.{has, leads, highest, Lowest};
+ghost use Rattle.policy.specs.Lines.{has, some-below, leads, highest, Lowest};
 use super::LineSet;
 
 impl LineSet {
@@ -10,7 +10,7 @@ impl LineSet {
     pub fn new() -> LineSet
         ensures { λ r. ⌜ ((k : ℕ) → has r k ≡ false) ⌝ }
     {
-        LineSet { lines: [false; 64] }
+        LineSet::below(0)
     }
 
     /// The lines below a number.
@@ -66,10 +66,25 @@ impl LineSet {
     pub fn leads(&self, line: u8) -> bool
         ensures { λ r. ⌜ r ≡ leads (has (now (self .entry))) line ⌝ }
     {
-        match self.lowest() {
-            Some(lowest) => lowest == line,
-            None => false,
+        self.has(line) && !self.any_below(line)
+    }
+
+    fn any_below(&self, line: u8) -> bool
+        ensures { λ r. ⌜ r ≡ some-below (has (now (self .entry))) line ⌝ }
+    {
+        for lower in 0..line {
+            if self.has(lower) {
+                return true;
+            }
         }
+        false
+    }
+
+    /// A line if it is in the set, else the best so far.
+    fn higher(&self, line: u8, best: u8) -> u8
+        ensures { λ r. ⌜ r ≡ cond (has (now (self .entry)) line) line best ⌝ }
+    {
+        if self.has(line) { line } else { best }
     }
 
     /// The highest line of the set, or the one given if it has none.
@@ -77,10 +92,8 @@ impl LineSet {
         ensures { λ r. ⌜ r ≡ highest (has (now (self .entry))) 64 default ⌝ }
     {
         let mut best = default;
-        for i in 0..64u8 {
-            if self.lines[i as usize] {
-                best = i;
-            }
+        for line in 0..64u8 {
+            best = self.higher(line, best);
         }
         best
     }

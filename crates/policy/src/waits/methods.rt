@@ -1,3 +1,4 @@
+ghost use mathlib.Core.Bool.{true, cond};
 ghost use mathlib.Core.List.{map};
 ghost use mathlib.Core.Path.{_≡_};
 ghost use Prim.Native.Nat.{ℕ, _<_};
@@ -5,8 +6,8 @@ ghost use lib.ListN.{length, getD, take};
 ghost use Rattle.std.specs.Options.{mapped};
 ghost use Rattle.std.specs.declared.option.Option.the-variants.{None};
 ghost use Rattle.model.specs.Records.{said};
-ghost use Rattle.policy.specs.Lines.{has, highest};
-ghost use Rattle.policy.specs.Waiting.{waits, waits-on, finds, free};
+ghost use Rattle.policy.specs.Lines.{has, leads, highest};
+ghost use Rattle.policy.specs.Waiting.{waits, waits-at, waits-on, finds, held-up, free};
 use super::Waits;
 use super::found::found;
 use super::found::waits_by;
@@ -26,6 +27,15 @@ fn found_all(commands: &[Command], records: &[Record]) -> [Option<Record>; 64]
     all
 }
 
+/// Whether the line of a place in the table waits on the other line of that place.
+fn waits_at(all: &[Option<Record>], at: usize) -> bool
+    requires long { ⌜ length (now all) ≡ 64 ⌝ }
+    requires place { ⌜ at < 4096 ⌝ }
+    ensures { λ r. ⌜ r ≡ waits-at (now (all .entry)) at ⌝ }
+{
+    waits_by(&all[at / 64], &all[at % 64])
+}
+
 impl Waits {
     /// Who waits on whom among the first 64 commands, by their records.
     pub fn new(commands: &[Command], records: &[Record]) -> Waits
@@ -34,7 +44,7 @@ impl Waits {
         let all = found_all(commands, records);
         let mut table = [false; 4096];
         for at in 0..4096usize {
-            table[at] = waits_by(&all[at / 64], &all[at % 64]);
+            table[at] = waits_at(&all, at);
         }
         Waits { table }
     }
@@ -52,27 +62,43 @@ impl Waits {
         self.table[line as usize * 64 + earlier as usize]
     }
 
+    fn held_up(&self, among: &LineSet, line: u8, earlier: u8) -> bool
+        ensures { λ r. ⌜ r ≡ held-up (waits (now (self .entry))) (has (now (among .entry))) line earlier ⌝ }
+    {
+        among.has(earlier) && self.on(line, earlier)
+    }
+
     /// A line is of the set and waits on no line of it.
     pub fn is_free(&self, among: &LineSet, line: u8) -> bool
         ensures { λ r. ⌜ r ≡ free (waits (now (self .entry))) (has (now (among .entry))) line ⌝ }
     {
         for earlier in 0..line {
-            if among.has(earlier) && self.on(line, earlier) {
+            if self.held_up(among, line, earlier) {
                 return false;
             }
         }
         among.has(line)
     }
 
+    /// A line if it is free, else the best so far.
+    fn higher_free(&self, among: &LineSet, line: u8, best: u8) -> u8
+        ensures { λ r. ⌜ r ≡ cond (free (waits (now (self .entry))) (has (now (among .entry))) line) line best ⌝ }
+    {
+        if self.is_free(among, line) {
+            line
+        } else {
+            best
+        }
+    }
+
     /// The highest line of the set that waits on no line of it, or the one given if there is none.
     pub fn highest_free(&self, among: &LineSet, default: u8) -> u8
-        ensures { λ r. ⌜ r ≡ highest (free (waits (now (self .entry))) (has (now (among .entry)))) 64 default ⌝ }
+        ensures value { λ r. ⌜ r ≡ highest (free (waits (now (self .entry))) (has (now (among .entry)))) 64 default ⌝ }
+        ensures free { λ r. ⌜ (leads (has (now (among .entry))) default ≡ true → free (waits (now (self .entry))) (has (now (among .entry))) r ≡ true) ⌝ }
     {
         let mut best = default;
         for line in 0..64u8 {
-            if self.is_free(among, line) {
-                best = line;
-            }
+            best = self.higher_free(among, line, best);
         }
         best
     }

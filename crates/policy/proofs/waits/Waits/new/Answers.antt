@@ -6,7 +6,7 @@ use Prim.Native.Nat.{_<_}
 use native.Mathlib.Omega.{arith}
 use lib.ListN.{length, length-set}
 use Rattle.model.specs.Records.{said}
-use Rattle.policy.proofs.Waiting.{waits-at, filled, table-tells}
+use Rattle.policy.proofs.Waiting.{filled, table-tells}
 use Rattle.policy.proofs.waits.Waits.new.Needs as need
 
 pub loop-at-holds : need.loop-at-holds
@@ -16,8 +16,8 @@ pub loop-at-again : need.loop-at-again
 loop-at-again c =
     let table = c .loop-at .table in
     let at = c .loop-at .at in (
-      length-set table at (c .waits-by .result) ∙ c .loop-at .inv .0,
-      filled (c .found-all-all .result) table at (c .waits-by .result) (omega (arith, c .loop-at .inv .0)) (c .loop-at .inv .1) (c .waits-by .ensures),
+      length-set table at (c .waits-at .result) ∙ c .loop-at .inv .0,
+      filled (c .found-all-all .result) table at (c .waits-at .result) (omega (arith, c .loop-at .inv .0)) (c .loop-at .inv .1) (c .waits-at .ensures),
     )
 
 pub returns : need.returns

@@ -3,7 +3,7 @@ use mathlib.Core.Bool.{false}
 use mathlib.Core.Path.{_≡_}
 use Prim.Native.Nat.{ℕ, _<_, _/_, _%_}
 use lib.ListN.{length, getD}
-use Rattle.policy.proofs.Waiting.{waits-at}
+use Rattle.policy.specs.Waiting.{waits-at}
 use Rattle.policy.proofs.waits.Waits.new.Given as given
 
 abbrev pub Inv-loop-at : given.InvT-loop-at
