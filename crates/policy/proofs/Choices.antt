@@ -1,7 +1,7 @@
 -- What is settled by patience is an answer of a policy's meaning; a set always has a line that waits on none of it.
-use mathlib.Core.Bool.{Bool, true, false, cond, not, _&&_}
+use mathlib.Core.Bool.{Bool, true, false, cond, not}
 use mathlib.Core.Logic.{⊎-elim}
-use mathlib.Core.Path.{_≡_, refl, sym, ap, _∙_}
+use mathlib.Core.Path.{_≡_, refl, sym}
 use Prim.Native.Nat.{ℕ, zero, suc, _+_, _≤_}
 use lib.Dec.{eqb}
 use Rattle.std.proofs.shelf.Tests.{cases-bool, and-parts, and-from, not-true, not-from-false, eqb-false, cond-true}

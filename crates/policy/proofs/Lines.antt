@@ -1,7 +1,7 @@
 -- Sets of lines: one step of the loops that go over one, and when a line is its lowest.
-use mathlib.Core.Bool.{Bool, true, false, cond, not, _&&_, _||_}
+use mathlib.Core.Bool.{Bool, true, false, cond, not, _&&_}
 use mathlib.Core.List.{List}
-use mathlib.Core.Logic.{_⊎_, inl, inr, ⊎-elim}
+use mathlib.Core.Logic.{⊎-elim}
 use mathlib.Core.Path.{_≡_, refl, sym, ap, _∙_}
 use Prim.Native.Nat.{ℕ, zero, suc, _+_, _<_, _≤_}
 use native.Mathlib.Numerals.{add-one}
@@ -10,7 +10,7 @@ use lib.Dec.{eqb, ltb}
 use lib.ListN.{length, getD, set, replicate}
 use lib.Seq.{getD-set-same, getD-set-other}
 use Rattle.std.proofs.shelf.Lists.{getD-past}
-use Rattle.std.proofs.shelf.Tests.{cases-eq, cases-order, cases-bool, both-ways, and-from, and-parts, not-from-false, not-true, or-left, or-right, or-cases, or-from, lt-ltb, le-ltb, eq-eqb, ne-eqb}
+use Rattle.std.proofs.shelf.Tests.{cases-eq, both-ways, and-parts, not-true, or-left, or-right, or-cases, or-from, lt-ltb, le-ltb, ne-eqb}
 use Rattle.std.proofs.shelf.Ways.{tells}
 use Rattle.model.specs.Policies.{Front}
 use Rattle.policy.specs.Lines.{some-below, leads, highest}

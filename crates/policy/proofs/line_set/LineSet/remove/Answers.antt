@@ -1,5 +1,4 @@
 -- Numbers above 63 are in no set.
-use mathlib.Core.Bool.{false}
 use native.Mathlib.Omega.{arith}
 use Rattle.policy.proofs.Lines.{none-out}
 use Rattle.policy.proofs.line_set.LineSet.remove.Needs as need

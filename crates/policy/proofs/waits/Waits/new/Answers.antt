@@ -1,10 +1,8 @@
 -- The table tells who waits on whom.
-use mathlib.Core.Bool.{false}
 use mathlib.Core.List.{map}
 use mathlib.Core.Path.{refl, _∙_}
-use Prim.Native.Nat.{_<_}
 use native.Mathlib.Omega.{arith}
-use lib.ListN.{length, length-set}
+use lib.ListN.{length-set}
 use Rattle.model.specs.Records.{said}
 use Rattle.policy.proofs.Waiting.{filled, table-tells}
 use Rattle.policy.proofs.waits.Waits.new.Needs as need

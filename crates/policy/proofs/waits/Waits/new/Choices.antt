@@ -1,7 +1,7 @@
 -- The places so far tell who waits on whom.
 use mathlib.Core.Bool.{false}
 use mathlib.Core.Path.{_≡_}
-use Prim.Native.Nat.{ℕ, _<_, _/_, _%_}
+use Prim.Native.Nat.{ℕ, _<_}
 use lib.ListN.{length, getD}
 use Rattle.policy.specs.Waiting.{waits-at}
 use Rattle.policy.proofs.waits.Waits.new.Given as given
