@@ -1,4 +1,4 @@
--- Who waits on whom: one step of the loops over records and their reads.
+-- Who waits on whom: one step of the loops over records and reads, and what a table filled by them tells.
 use mathlib.Core.Bool.{Bool, true, false, cond, not, _&&_, _||_}
 use mathlib.Core.List.{List, [], _∷_, map}
 use mathlib.Core.Logic.{_≢_, ⊎-elim}

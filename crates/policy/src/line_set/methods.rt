@@ -13,7 +13,7 @@ impl LineSet {
         LineSet::below(0)
     }
 
-    /// The lines below a number.
+    /// The lines below a number, at most all 64.
     pub fn below(count: u8) -> LineSet
         ensures { λ r. ⌜ ((k : ℕ) → has r k ≡ ltb k (min count 64)) ⌝ }
     {
@@ -69,6 +69,7 @@ impl LineSet {
         self.has(line) && !self.any_below(line)
     }
 
+    /// The set has a line below a number.
     fn any_below(&self, line: u8) -> bool
         ensures { λ r. ⌜ r ≡ some-below (has (now (self .entry))) line ⌝ }
     {

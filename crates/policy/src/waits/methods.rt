@@ -49,7 +49,7 @@ impl Waits {
         Waits { table }
     }
 
-    /// A line waits on another line.
+    /// A line waits on another line. What is no line has no record, so it waits on all earlier ones.
     pub fn on(&self, line: u8, earlier: u8) -> bool
         ensures { λ r. ⌜ r ≡ waits (now (self .entry)) line earlier ⌝ }
     {
@@ -62,6 +62,7 @@ impl Waits {
         self.table[line as usize * 64 + earlier as usize]
     }
 
+    /// A line waits on an earlier line, and that one is in the set.
     fn held_up(&self, among: &LineSet, line: u8, earlier: u8) -> bool
         ensures { λ r. ⌜ r ≡ held-up (waits (now (self .entry))) (has (now (among .entry))) line earlier ⌝ }
     {
