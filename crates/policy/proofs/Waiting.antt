@@ -29,26 +29,16 @@ use Rattle.policy.proofs.Lines.{some-from, and-true}
 abbrev pub told-of : Command → List Code.Record → Option Record
 told-of c rs = record-of c (map said rs)
 
-module _ (c : Command) (rs : List Code.Record) (i : ℕ) (d : Code.Record) (inv : told-of c (drop i rs) ≡ told-of c rs) where
-  abbrev one : Option Record
-  one = Some (said (getD rs i d))
-
-  pub record-here : i < length rs → true ≡ same-command c (getD rs i d .command) → one ≡ told-of c rs
-  record-here h e = ap (λ b. cond b one (told-of c (drop (i + 1) rs))) e ∙ sym (at-drop-more (told-of c) rs i d h) ∙ inv
-
-  pub record-more : i < length rs → false ≡ same-command c (getD rs i d .command) → told-of c (drop (i + 1) rs) ≡ told-of c rs
-  record-more h e = ap (λ b. cond b one (told-of c (drop (i + 1) rs))) e ∙ sym (at-drop-more (told-of c) rs i d h) ∙ inv
+pub record-step : (c : Command) (rs : List Code.Record) (i : ℕ) (d : Code.Record) (same : Bool) → told-of c (drop i rs) ≡ told-of c rs → i < length rs → same ≡ same-command c (getD rs i d .command)
+    → cond same (Some (said (getD rs i d))) (told-of c (drop (i + 1) rs)) ≡ told-of c rs
+record-step c rs i d same inv h e = ap (λ b. cond b (Some (said (getD rs i d))) (told-of c (drop (i + 1) rs))) e ∙ sym (at-drop-more (told-of c) rs i d h) ∙ inv
 
 pub record-none : (c : Command) (rs : List Code.Record) (i : ℕ) → told-of c (drop i rs) ≡ told-of c rs → length rs ≤ i → None ≡ told-of c rs
 record-none c rs i inv h = sym (at-drop-all (told-of c) rs i h) ∙ inv
 
 -- a read of a file, likewise
-module _ (f : ℕ) (us : List Use) (i : ℕ) (d : Use) (inv : reads-file f (drop i us) ≡ reads-file f us) where
-  pub read-here : i < length us → true ≡ eqb f (getD us i d .file) → true ≡ reads-file f us
-  read-here h e = ap (λ b. b || reads-file f (drop (i + 1) us)) e ∙ sym (at-drop-more (reads-file f) us i d h) ∙ inv
-
-  pub read-more : i < length us → false ≡ eqb f (getD us i d .file) → reads-file f (drop (i + 1) us) ≡ reads-file f us
-  read-more h e = ap (λ b. b || reads-file f (drop (i + 1) us)) e ∙ sym (at-drop-more (reads-file f) us i d h) ∙ inv
+pub read-step : (f : ℕ) (us : List Use) (i : ℕ) (d : Use) (same : Bool) → reads-file f (drop i us) ≡ reads-file f us → i < length us → same ≡ eqb f (getD us i d .file) → (same || reads-file f (drop (i + 1) us)) ≡ reads-file f us
+read-step f us i d same inv h e = ap (λ b. b || reads-file f (drop (i + 1) us)) e ∙ sym (at-drop-more (reads-file f) us i d h) ∙ inv
 
 pub read-none : (f : ℕ) (us : List Use) (i : ℕ) → reads-file f (drop i us) ≡ reads-file f us → length us ≤ i → false ≡ reads-file f us
 read-none f us i inv h = sym (at-drop-all (reads-file f) us i h) ∙ inv
