@@ -1,5 +1,5 @@
 -- The layout of a map, entry by entry: how it grows by one file.
-use Prim.Native.Nat.{ℕ, zero, suc, _+_, _-_, _*_, _/_, _%_, _<_, _≤_}
+use Prim.Native.Nat.{ℕ, suc, _+_, _-_, _*_, _/_, _%_, _<_, _≤_}
 use lib.Dec.{eqb}
 use lib.ListN.{length, getD, set, take, replicate}
 use mathlib.Core.Bool.{Bool, true, false, cond}

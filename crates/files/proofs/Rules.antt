@@ -1,15 +1,15 @@
 -- The layouts of maps are the bytes that keep the rules of an image.
 use Prim.Native.Nat.{ℕ, zero, suc, min, _+_, _-_, _*_, _/_, _%_, _<_, _≤_}
 use lib.Dec.{eqb}
-use lib.ListN.{length, getD, drop, replicate}
+use lib.ListN.{length, getD, replicate}
 use mathlib.Core.Bool.{Bool, true, false, cond}
 use mathlib.Core.List.{List, [], _∷_, _++_}
-use mathlib.Core.Logic.{_⊎_, inl, inr}
+use mathlib.Core.Logic.{inl, inr}
 use mathlib.Core.Path.{_≡_, refl, sym, ap, subst, _∙_}
 use native.Mathlib.Omega.{arith}
-use Rattle.std.proofs.shelf.Lists.{length-append, length-replicate, getD-replicate, getD-past, ext-getD}
-use Rattle.std.proofs.shelf.Tests.{cond-true, cond-false, eq-eqb, ne-eqb, eqb-false, cases-lt, cases-eq}
-use Rattle.files.specs.Layout.{Map, Rules, Entries, entry, entries, counted, present, padded, layout, told, numbers, mapped}
+use Rattle.std.proofs.shelf.Lists.{getD-past}
+use Rattle.std.proofs.shelf.Tests.{cond-true, cond-false, eq-eqb, ne-eqb, eqb-false, cases-eq}
+use Rattle.files.specs.Layout.{Map, Rules, Entries, entries, present, padded, layout, told, numbers, mapped}
 use Rattle.files.proofs.Layouts.{layout-length}
 use Rattle.files.proofs.Trips.{digits, present-low}
 

@@ -8,7 +8,7 @@ use mathlib.Core.Path.{_≡_, refl, sym, ap, _∙_}
 use native.Mathlib.Omega.{arith}
 use Rattle.std.proofs.shelf.Lists.{ext-getD, getD-past}
 use Rattle.std.proofs.shelf.Tests.{cond-true, cond-false, eq-eqb, ne-eqb, eqb-true}
-use Rattle.files.specs.Layout.{Map, entry, entries, counted, present, padded, layout, told, numbers, mapped}
+use Rattle.files.specs.Layout.{Map, entries, present, padded, layout, told, numbers, mapped}
 
 pub length-numbers : (m f n : ℕ) (bs : List ℕ) → length (numbers m f n bs) ≡ m
 unfolding numbers

@@ -1,5 +1,5 @@
 -- A front `take n xs`, which is what a lent list holds, after each change of `n` or of the list.
-use Prim.Native.Nat.{ℕ, _+_, _-_, _≤_, _<_}
+use Prim.Native.Nat.{ℕ, _+_, _-_, _<_}
 use borrow.Rule.Slice.PartMut.{putMid}
 use lib.ListN.{length, set, take}
 use lib.Seq.{take-set-lt}

@@ -2,7 +2,7 @@
 use Prim.Native.Nat.{ℕ, zero, suc, _+_, _-_, _<_, _≤_}
 use lib.Dec.{leb}
 use lib.ListN.{length, getD}
-use mathlib.Core.Bool.{Bool, true, false, cond}
+use mathlib.Core.Bool.{true, false}
 use mathlib.Core.List.{List, [], _∷_}
 use mathlib.Core.Logic.{inl, inr}
 use mathlib.Core.Path.{_≡_, refl, sym, ap, _∙_}
@@ -11,7 +11,7 @@ use Rattle.std.proofs.shelf.Equals.{sameBytes-decides}
 use Rattle.std.proofs.shelf.Lists.{getD-past}
 use Rattle.std.proofs.shelf.Tests.{cond-true, cond-false, cases-bool, and-parts, leb-true}
 use Rattle.std.specs.shelf.Text.{sameBytes}
-use Rattle.model.specs.Contents.{holds, find, up, mem}
+use Rattle.model.specs.Contents.{holds, find, up}
 use Rattle.pool.specs.Stores.{Kept, held, stands}
 use Rattle.pool.specs.declared.store.Store.{Store}
 use Rattle.pool.proofs.Places.{count-held}

@@ -1,5 +1,5 @@
 -- Places that lie one after the other: where each starts and ends, and how many bytes the contents have.
-use Prim.Native.Nat.{ℕ, zero, suc, min, _+_, _-_, _<_, _≤_}
+use Prim.Native.Nat.{ℕ, zero, suc, _+_, _-_, _<_, _≤_}
 use denote.Ref.{now}
 use lib.ListN.{length, getD, take, drop}
 use mathlib.Core.List.{List, [], _∷_, _++_, map}

@@ -1,14 +1,13 @@
 -- What holds of every pool: other crates take it from here, or from what `count` promises.
-use Prim.Native.Nat.{ℕ, _<_, _≤_}
+use Prim.Native.Nat.{_<_}
 use lib.ListN.{length, getD}
-use mathlib.Core.List.{[]}
-use mathlib.Core.Path.{_≡_, sym, ap}
+use mathlib.Core.Path.{ap}
 use native.Mathlib.Omega.{arith}
 use denote.Ref.{now}
 use Rattle.pool.specs.Contents.{meant}
-use Rattle.pool.specs.Pieces.{nowhere, piece}
+use Rattle.pool.specs.Pieces.{nowhere}
 use Rattle.pool.specs.Sound.{Sound}
-use Rattle.pool.specs.Stores.{Kept, held}
+use Rattle.pool.specs.Stores.{Kept}
 use Rattle.pool.specs.declared.holder.Pool.{Pool}
 use Rattle.pool.proofs.Places.{count-held, used-held, length-piece, within-bytes, getD-pieces, all-places}
 

@@ -2,7 +2,7 @@
 use Prim.Native.Nat.{ℕ, min, _<_, _≤_}
 use denote.Ref.{now}
 use lib.ListN.{getD, length, take}
-use mathlib.Core.List.{List, []}
+use mathlib.Core.List.{List}
 use mathlib.Core.Path.{_≡_}
 use Rattle.model.specs.Contents as Model
 use Rattle.pool.specs.Pieces.{nowhere, pieces, total}

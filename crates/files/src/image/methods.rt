@@ -2,7 +2,7 @@ ghost use mathlib.Core.Bool.{true, cond};
 ghost use mathlib.Core.List.{List};
 ghost use mathlib.Core.Path.{_≡_};
 ghost use Prim.Native.Nat.{ℕ, _<_};
-ghost use lib.ListN.{length, getD, set, replicate};
+ghost use lib.ListN.{set, replicate};
 ghost use Rattle.std.specs.Results.{isOk};
 ghost use Rattle.files.specs.Images.{shown, means, filling};
 ghost use Rattle.files.specs.Layout.{Map, Rules, layout, mapped};

@@ -1,6 +1,6 @@
 ghost use mathlib.Core.List.{[]};
 ghost use mathlib.Core.Path.{_≡_};
-ghost use Prim.Native.Nat.{ℕ, min, _-_, _≤_};
+ghost use Prim.Native.Nat.{min, _-_, _≤_};
 ghost use lib.Dec.{ltb};
 ghost use lib.ListN.{length, take};
 ghost use Rattle.std.specs.Options.{Cases, mapped};

@@ -1,6 +1,5 @@
 -- The image has one entry more, or the file is absent.
 use borrow.Author.Needs.{needs}
-use Prim.Native.Nat.{_<_}
 use lib.ListN.{length, getD}
 use mathlib.Core.Path.{_≡_, ap}
 use native.Mathlib.Omega.{arith}

@@ -1,5 +1,5 @@
 -- The search answers the number of the first equal content, or 0, and what putting it would then do.
-use Prim.Native.Nat.{ℕ, _+_, _-_, _<_}
+use Prim.Native.Nat.{ℕ, _+_, _-_}
 use borrow.Author.Count.{below-more}
 use lib.ListN.{getD}
 use mathlib.Core.Bool.{Bool}

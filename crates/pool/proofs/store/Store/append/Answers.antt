@@ -1,13 +1,12 @@
 -- One place more, right behind the others, and its bytes: one content more.
-use Prim.Native.Nat.{_≤_, _<_, _+_, _-_}
+use Prim.Native.Nat.{_<_, _+_, _-_}
 use borrow.Author.Needs.{needs}
-use borrow.Rule.Slice.PartMut.{putMid}
-use lib.ListN.{length, set}
-use mathlib.Core.Path.{refl, ap, _∙_}
+use lib.ListN.{length}
+use mathlib.Core.Path.{ap, _∙_}
 use native.Mathlib.Omega.{arith}
 use Rattle.pool.specs.Stores.{stands, held}
 use Rattle.pool.proofs.Adds.{short-added, pieces-added, copied-front, copied-piece, packed-added, filled-added, apart-added}
-use Rattle.pool.proofs.Places.{inside, count-held, all-bytes, all-places}
+use Rattle.pool.proofs.Places.{inside, count-held, all-bytes}
 use Rattle.pool.proofs.Puts.{fitting, put-fresh, given-fresh}
 use Rattle.pool.proofs.store.Store.append.Needs as need
 

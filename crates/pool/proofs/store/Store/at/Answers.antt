@@ -1,12 +1,5 @@
 -- A place lies within the bytes that are used, so the part that it tells is there.
-use Prim.Native.Nat.{_+_, _≤_}
 use borrow.Author.Needs.{needs}
-use denote.Ref.{now}
-use lib.ListN.{length, getD}
-use native.Mathlib.Omega.{arith}
-use Rattle.pool.specs.Pieces.{nowhere}
-use Rattle.pool.specs.declared.store.Store.{Store}
-use Rattle.pool.specs.Stores.{Kept}
 use Rattle.pool.proofs.Places.{within-bytes, read-at, start-held, part-at, short-at}
 use Rattle.pool.proofs.store.Store.at.Needs as need
 

@@ -1,6 +1,5 @@
 -- The first places, and the bytes before the first place that is left out: the first contents.
-use Prim.Native.Nat.{_<_, _≤_}
-use lib.ListN.{length}
+use Prim.Native.Nat.{_<_}
 use native.Mathlib.Omega.{arith}
 use Rattle.pool.specs.Stores.{stands, held}
 use Rattle.pool.proofs.Cuts.{cut-is, apart-front}
