@@ -68,10 +68,10 @@ act-moved cs l s r e = record {
 }
 
 -- a skip that goes on ends its line
-abbrev Ends : ℕ → List Entry → List Entry → Type 0
+abbrev pub Ends : ℕ → List Entry → List Entry → Type 0
 Ends l es ds = ((m : ℕ) → (m ≡ l → ⊥) → (reads-of m ds ≡ reads-of m es) × (ended m ds ≡ ended m es)) × (ended l ds ≡ true)
 
-skip-ends : (l : ℕ) (rs : List Use) (u : Use) (s r : State) → skip l rs u s ≡ goes r → Ends l (s .entries) (r .entries)
+pub skip-ends : (l : ℕ) (rs : List Use) (u : Use) (s r : State) → skip l rs u s ≡ goes r → Ends l (s .entries) (r .entries)
 skip-ends l [] u s r e = by (hazard (entry l true u) (s .entries)) e
   where
     or-true : (b : Bool) → (b || true) ≡ true

@@ -16,7 +16,7 @@ use Rattle.model.specs.Commands.{reads, wants}
 use Rattle.model.specs.Hazards.{ended, fresh}
 use Rattle.model.specs.World.{state, lines}
 use Rattle.model.specs.Past.{found}
-use Rattle.model.specs.Promise.{Log-has-room}
+use Rattle.model.specs.Laws.{Log-has-room}
 use Rattle.model.proofs.Trace as Trace
 use Rattle.model.proofs.Trace.{Event, rd, wr, Trace, Start, line, mine, seen, ends, Ok, Steps}
 use Rattle.model.proofs.Swap.{mine-other}

@@ -40,6 +40,11 @@ abbrev pub skipped : {m n : ℕ} {u : World} {k : ℕ} {v : World} → Steps m n
 skipped no-step = 0
 skipped (a-step h j s d) = skipped h + cond (s .skipped) 1 0
 
+-- line l made an act in one of them that was no skip
+abbrev pub acted : {m n : ℕ} {u : World} {k : ℕ} {v : World} → ℕ → Steps m n u k v → Bool
+acted l no-step = false
+acted l (a-step {k} {v} {w} h j s d) = (eqb l (s .line) && (not (s .skipped) && ltb (length (v .entries)) (length (w .entries)))) || acted l h
+
 -- their calls
 abbrev pub stepped : {m n : ℕ} {u : World} {k : ℕ} {v : World} → Steps m n u k v → Ran u v
 stepped no-step = none

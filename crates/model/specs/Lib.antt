@@ -22,3 +22,4 @@ pub mod Calls
 pub mod Past
 pub mod Build
 pub mod Promise
+pub mod Laws

@@ -1,6 +1,6 @@
 -- The promises, over every past.
 use mathlib.Core.Path.{_≡_}
-use mathlib.Core.List.{List, [], _∷_, _++_}
+use mathlib.Core.List.{List, [], _∷_}
 use mathlib.Core.Bool.{Bool, true, false, cond}
 use Prim.Native.Nat.{ℕ, _+_, _*_, _≤_}
 use lib.Dec.{eqb}
@@ -22,13 +22,12 @@ use Rattle.model.specs.declared.answers.BuildRefusal.{BuildRefusal}
 use Rattle.model.specs.declared.answers.BuildRefusal.the-variants.{By, Stopped}
 use Rattle.model.specs.Contents.{Content, Pool, count, used, told}
 use Rattle.model.specs.Records.{Record}
-use Rattle.model.specs.Acts.{State, Outcome, goes, stops, then}
-use Rattle.model.specs.Order.{script, in-order}
+use Rattle.model.specs.Acts.{Outcome, goes, stops}
+use Rattle.model.specs.Order.{in-order}
 use Rattle.model.specs.Truth.{true-in}
 use Rattle.model.specs.Book.{has-record}
-use Rattle.model.specs.World.{World, lines}
+use Rattle.model.specs.World.{World}
 use Rattle.model.specs.Begin.{Ticket, begin-refusal}
-use Rattle.model.specs.Step.{left, record-for}
 use Rattle.model.specs.Calls.{Did, on-close}
 use Rattle.model.specs.Past.{Past, after, found, fronts, One-policy}
 use Rattle.model.specs.Build.{Whole, whole, Builds, refused, once, twice}
@@ -115,14 +114,3 @@ One-record-a-command = (w : World) → Past w → Unique (w .records) × (length
 -- The pool stays within its places and its room.
 abbrev pub Pool-in-room : Type 0
 Pool-in-room = (w : World) → Past w → (count (w .pool) ≤ w .pool .places) × (used (w .pool .contents) ≤ w .pool .room)
-
--- Script order of two scripts one after the other, the second numbered on, is script order of the first and then of the second.
-abbrev pub Script-order-appends : Type 0
-Script-order-appends = (l : ℕ) (cs ds : List Command) (s : State) → script l (cs ++ ds) s ≡ then (script l cs s) (script (l + length cs) ds)
-
--- The log has room for all that a step notes: one act, or those of the record that it skips by.
-abbrev pub Log-has-room : Type 0
-Log-has-room =
-    (w : World) → Past w → w .is-open ≡ true → w .notes .stop ≡ None → (l : ℕ) → left (lines w) (w .entries) l ≡ true →
-    (length (w .entries) + 1 ≤ w .log-places) ×
-    ((q : Record) → record-for w l ≡ Some q → length (w .entries) + (length (q .reads) + 1) ≤ w .log-places)

@@ -3,7 +3,8 @@
 //! The meaning stands in `specs/`: what a line does, what an act is, script order, what each call does to the
 //! world, and the promises over every past. Each function here whose name ends in `_stands` says in its contract
 //! that such a promise is proved.
-ghost use Rattle.model.specs.Promise.{Kept-as-script-order, Put-back-as-found, Script-order-appends, Build-as-script-order, Begins-again, No-line-starves, No-line-starves-in-builds, Own-records-true, One-record-a-command, Pool-in-room, Log-has-room};
+ghost use Rattle.model.specs.Promise.{Kept-as-script-order, Put-back-as-found, Build-as-script-order, Begins-again, No-line-starves, No-line-starves-in-builds, Own-records-true, One-record-a-command, Pool-in-room};
+ghost use Rattle.model.specs.Laws.{Script-order-appends, Lines-counted, Each-line-counted, Log-has-room};
 
 mod answers;
 mod command;
@@ -45,6 +46,14 @@ pub fn order_stands() -> u8
 pub fn build_stands() -> u8
     ensures order { λ _. ⌜ Build-as-script-order ⌝ }
     ensures again { λ _. ⌜ Begins-again ⌝ }
+{
+    0
+}
+
+/// The lines that a run counts are those that it executed and skipped.
+pub fn counts_stand() -> u8
+    ensures run { λ _. ⌜ Lines-counted ⌝ }
+    ensures kept { λ _. ⌜ Each-line-counted ⌝ }
 {
     0
 }

@@ -1,0 +1,43 @@
+-- Further laws, which the calls and later pages stand on.
+use mathlib.Core.Path.{_≡_}
+use mathlib.Core.List.{List, _++_}
+use mathlib.Core.Bool.{Bool, true, cond, not}
+use Prim.Native.Nat.{ℕ, zero, suc, _+_, _≤_}
+use lib.ListN.{length}
+use Rattle.std.specs.declared.option.Option.the-variants.{Some, None}
+use Rattle.model.specs.declared.command.Command.{Command}
+use Rattle.model.specs.Records.{Record}
+use Rattle.model.specs.Hazards.{fresh}
+use Rattle.model.specs.Acts.{State, then}
+use Rattle.model.specs.Order.{script}
+use Rattle.model.specs.World.{World, lines}
+use Rattle.model.specs.Step.{left, record-for}
+use Rattle.model.specs.Calls.{on-begin, Did}
+use Rattle.model.specs.Past.{Past}
+use Rattle.model.specs.Build.{Steps, executed, skipped, acted, Whole}
+
+-- Script order of two scripts one after the other, the second numbered on, is script order of the first and then of the second.
+abbrev pub Script-order-appends : Type 0
+Script-order-appends = (l : ℕ) (cs ds : List Command) (s : State) → script l (cs ++ ds) s ≡ then (script l cs s) (script (l + length cs) ds)
+
+-- how many of the lines below n pass a test
+abbrev pub how-many : (ℕ → Bool) → ℕ → ℕ
+how-many t zero = 0
+how-many t (suc n) = cond (t n) 1 0 + how-many t n
+
+-- In a run, however it ends, the lines executed are those that made an act which was no skip, and with the lines skipped they are all that made an act.
+abbrev pub Lines-counted : Type 0
+Lines-counted =
+    (u x v : World) (cs : List Command) (m n k : ℕ) → Did (on-begin cs None) u x → (h : Steps m n x k v) →
+    (executed h ≡ how-many (λ l. acted l h) (length cs)) × (executed h + skipped h ≡ how-many (λ l. not (fresh l (v .entries))) (length cs))
+
+-- In a run that is kept, each line is executed or skipped, and none is both.
+abbrev pub Each-line-counted : Type 0
+Each-line-counted = (u v : World) (cs : List Command) (m n : ℕ) (r : Whole cs m n None u v) → executed (r .steps) + skipped (r .steps) ≡ length cs
+
+-- The log has room for all that a step notes: one act, or those of the record that it skips by.
+abbrev pub Log-has-room : Type 0
+Log-has-room =
+    (w : World) → Past w → w .is-open ≡ true → w .notes .stop ≡ None → (l : ℕ) → left (lines w) (w .entries) l ≡ true →
+    (length (w .entries) + 1 ≤ w .log-places) ×
+    ((q : Record) → record-for w l ≡ Some q → length (w .entries) + (length (q .reads) + 1) ≤ w .log-places)
