@@ -2,13 +2,15 @@
 use mathlib.Core.Path.{_≡_}
 use mathlib.Core.List.{List, _++_}
 use mathlib.Core.Bool.{Bool, true, cond, not}
-use Prim.Native.Nat.{ℕ, zero, suc, _+_, _≤_}
-use lib.ListN.{length}
+use Prim.Native.Nat.{ℕ, zero, suc, _+_, _≤_, _<_}
+use lib.ListN.{length, getD}
 use Rattle.std.specs.declared.option.Option.the-variants.{Some, None}
 use Rattle.model.specs.declared.command.Command.{Command}
+use Rattle.model.specs.declared.run.LineState.the-variants.{Waiting}
 use Rattle.model.specs.Records.{Record}
+use Rattle.model.specs.Commands.{wants}
 use Rattle.model.specs.Hazards.{fresh}
-use Rattle.model.specs.Acts.{State, then}
+use Rattle.model.specs.Acts.{State, then, line-state}
 use Rattle.model.specs.Order.{script}
 use Rattle.model.specs.World.{World, lines}
 use Rattle.model.specs.Step.{left, record-for}
@@ -34,6 +36,12 @@ Lines-counted =
 -- In a run that is kept, each line is executed or skipped, and none is both.
 abbrev pub Each-line-counted : Type 0
 Each-line-counted = (u v : World) (cs : List Command) (m n : ℕ) (r : Whole cs m n None u v) → executed (r .steps) + skipped (r .steps) ≡ length cs
+
+-- In an open run the state of each line is the one that its entries tell.
+abbrev pub States-follow : Type 0
+States-follow =
+    (w : World) → Past w → w .is-open ≡ true → (l : ℕ) → l < lines w →
+    getD (w .notes .states) l Waiting ≡ line-state (wants (w .notes .commands) l) l (w .pool) (w .entries)
 
 -- The log has room for all that a step notes: one act, or those of the record that it skips by.
 abbrev pub Log-has-room : Type 0

@@ -4,7 +4,7 @@
 //! world, and the promises over every past. Each function here whose name ends in `_stands` says in its contract
 //! that such a promise is proved.
 ghost use Rattle.model.specs.Promise.{Kept-as-script-order, Put-back-as-found, Build-as-script-order, Begins-again, No-line-starves, No-line-starves-in-builds, Own-records-true, One-record-a-command, Pool-in-room};
-ghost use Rattle.model.specs.Laws.{Script-order-appends, Lines-counted, Each-line-counted, Log-has-room};
+ghost use Rattle.model.specs.Laws.{Script-order-appends, Lines-counted, Each-line-counted, States-follow, Log-has-room};
 
 mod answers;
 mod command;
@@ -70,6 +70,13 @@ pub fn fronts_stand() -> u8
 pub fn records_stand() -> u8
     ensures own { λ _. ⌜ Own-records-true ⌝ }
     ensures unique { λ _. ⌜ One-record-a-command ⌝ }
+{
+    0
+}
+
+/// The table of line states follows from the entries.
+pub fn states_stand() -> u8
+    ensures { λ _. ⌜ States-follow ⌝ }
 {
     0
 }
