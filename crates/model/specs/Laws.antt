@@ -1,19 +1,21 @@
 -- Further laws, which the calls and later pages stand on.
 use mathlib.Core.Path.{_≡_}
-use mathlib.Core.List.{List, _++_}
-use mathlib.Core.Bool.{Bool, true, cond, not}
-use Prim.Native.Nat.{ℕ, zero, suc, _+_, _≤_, _<_}
+use mathlib.Core.List.{List, [], _∷_, _++_}
+use mathlib.Core.Bool.{Bool, true, false, cond, not}
+use Prim.Native.Nat.{ℕ, zero, suc, _+_, _*_, _≤_, _<_}
+use lib.Dec.{eqb}
 use lib.ListN.{length, getD}
 use Rattle.std.specs.declared.option.Option.the-variants.{Some, None}
 use Rattle.model.specs.declared.command.Command.{Command}
+use Rattle.model.specs.declared.run.Entry.{Entry}
 use Rattle.model.specs.declared.run.LineState.the-variants.{Waiting}
 use Rattle.model.specs.Records.{Record}
 use Rattle.model.specs.Commands.{wants}
-use Rattle.model.specs.Hazards.{fresh}
-use Rattle.model.specs.Acts.{State, then, line-state}
+use Rattle.model.specs.Hazards.{fresh, ended}
+use Rattle.model.specs.Acts.{State, then, reached, line-state}
 use Rattle.model.specs.Order.{script}
 use Rattle.model.specs.World.{World, lines}
-use Rattle.model.specs.Step.{left, record-for}
+use Rattle.model.specs.Step.{left, record-for, work}
 use Rattle.model.specs.Calls.{on-begin, Did}
 use Rattle.model.specs.Past.{Past}
 use Rattle.model.specs.Build.{Steps, executed, skipped, acted, Whole}
@@ -43,9 +45,28 @@ States-follow =
     (w : World) → Past w → w .is-open ≡ true → (l : ℕ) → l < lines w →
     getD (w .notes .states) l Waiting ≡ line-state (wants (w .notes .commands) l) l (w .pool) (w .entries)
 
--- The log has room for all that a step notes: one act, or those of the record that it skips by.
+-- how many acts of line l are noted
+abbrev pub acts-made : ℕ → List Entry → ℕ
+acts-made l [] = 0
+acts-made l (e ∷ es) = cond (eqb l (e .line)) 1 0 + acts-made l es
+
+-- THE ROOM OF A LOG for a run of n lines: 17 places a line; no acts but of these lines, at most 17 of each, and at most 16 of one that has not ended
+pub record Room (n places : ℕ) (es : List Entry) : Type 0 where
+  pub enough : 17 * n ≤ places
+  pub inside : (l : ℕ) → n ≤ l → acts-made l es ≡ 0
+  pub few : (l : ℕ) → acts-made l es ≤ 17
+  pub fewer : (l : ℕ) → ended l es ≡ false → acts-made l es ≤ 16
+
+-- Then there are places for all that is left of line l, of 17 acts.
+abbrev pub Room-is-left : Type 0
+Room-is-left = (n places : ℕ) (es : List Entry) → Room n places es → (l : ℕ) → l < n → length es + 17 ≤ places + acts-made l es
+
+-- A working step keeps that room, in any world, with any past or none; a record has at most 16 reads.
+abbrev pub Room-is-kept : Type 0
+Room-is-kept =
+    (w : World) → Room (lines w) (w .log-places) (w .entries) → (l : ℕ) → left (lines w) (w .entries) l ≡ true →
+    ((q : Record) → record-for w l ≡ Some q → length (q .reads) ≤ 16) → Room (lines w) (w .log-places) (reached (work w l) .entries)
+
+-- The log of an open run has its room, over every past.
 abbrev pub Log-has-room : Type 0
-Log-has-room =
-    (w : World) → Past w → w .is-open ≡ true → w .notes .stop ≡ None → (l : ℕ) → left (lines w) (w .entries) l ≡ true →
-    (length (w .entries) + 1 ≤ w .log-places) ×
-    ((q : Record) → record-for w l ≡ Some q → length (w .entries) + (length (q .reads) + 1) ≤ w .log-places)
+Log-has-room = (w : World) → Past w → w .is-open ≡ true → Room (lines w) (w .log-places) (w .entries)

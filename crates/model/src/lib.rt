@@ -4,7 +4,7 @@
 //! world, and the promises over every past. Each function here whose name ends in `_stands` says in its contract
 //! that such a promise is proved.
 ghost use Rattle.model.specs.Promise.{Kept-as-script-order, Put-back-as-found, Build-as-script-order, Begins-again, No-line-starves, No-line-starves-in-builds, Own-records-true, One-record-a-command, Pool-in-room};
-ghost use Rattle.model.specs.Laws.{Script-order-appends, Lines-counted, Each-line-counted, States-follow, Log-has-room};
+ghost use Rattle.model.specs.Laws.{Script-order-appends, Lines-counted, Each-line-counted, States-follow, Room-is-left, Room-is-kept, Log-has-room};
 
 mod answers;
 mod command;
@@ -84,6 +84,8 @@ pub fn states_stand() -> u8
 /// Pool and log have the room that they need.
 pub fn room_stands() -> u8
     ensures pool { λ _. ⌜ Pool-in-room ⌝ }
+    ensures left { λ _. ⌜ Room-is-left ⌝ }
+    ensures kept { λ _. ⌜ Room-is-kept ⌝ }
     ensures log { λ _. ⌜ Log-has-room ⌝ }
 {
     0
