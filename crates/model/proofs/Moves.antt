@@ -23,7 +23,7 @@ use Rattle.model.specs.Policies.{Front}
 use Rattle.model.specs.World.{World, state}
 use Rattle.model.specs.Step.{skip, entry, left, all-ended, record-for, work-by, work}
 use Rattle.model.proofs.Script.{Read-act, Write-act, was, nearer, ended-more}
-use Rattle.model.proofs.Bridge.{not-goes, goes-is}
+use Rattle.model.proofs.Correspond.{not-goes, goes-is}
 use Rattle.model.proofs.Sound.{left-parts}
 
 count-reads : (p : Pool) (l : ℕ) (es : List Entry) → length (has-read p l es) ≡ length (reads-of l es)

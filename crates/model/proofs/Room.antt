@@ -29,7 +29,7 @@ use Rattle.model.proofs.Brief.{brief}
 use Rattle.model.proofs.Script.{ended-more}
 use Rattle.model.proofs.Skip.{fresh-has, skips-at-is, skips-few}
 use Rattle.model.proofs.Changes.{Change, same, lay-done, load-done, audit-done, back-done, keep-done, lay-change, load-change, audit-change, ending, close-change}
-use Rattle.model.proofs.Sound.{sound, Ready, ready, left-parts, honest-now}
+use Rattle.model.proofs.Sound.{sound, Ready, ready, left-parts, own-true-now}
 use Rattle.model.proofs.Adds.{Of, Adds, work-adds, act-adds, skip-adds, adds-other}
 
 -- COUNTING ENTRIES
@@ -217,7 +217,7 @@ room-change w v h (keep-done c s a i) = λ k. absurd (both-ways _ (ap (λ x. x .
 records-brief : {w : World} (p : Past w) → w .is-open ≡ true → (l : ℕ) (q : Record) → record-for w l ≡ Some q → length (q .reads) ≤ 16
 records-brief {w} p i l q e =
     let o = sound p .open-run i in
-    skips-few (w .notes .commands) l (state w) q (w .pool) (skips-at-is (w .pool) (w .records) (honest-now (found p) w o) l (state w) q (w .notes .commands) l e)
+    skips-few (w .notes .commands) l (state w) q (w .pool) (skips-at-is (w .pool) (w .records) (own-true-now (found p) w o) l (state w) q (w .notes .commands) l e)
 
 room-by : {w : World} (p : Past w) (v : World) (c : Call) → Held w → Does c w v → Held v
 room-by {w} p v (on-lay hs a) h d = room-change w v h (lay-change w v hs a d)

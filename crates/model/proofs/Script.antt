@@ -22,7 +22,7 @@ use Rattle.model.specs.Hazards.{has-read, ended, hazard}
 use Rattle.model.specs.Acts.{State, Outcome, goes, stops, then, stop-at, tested, noted, written, writing, attempt, act}
 use Rattle.model.specs.Order.{carry, script}
 use Rattle.model.proofs.Brief.{brief}
-use Rattle.model.proofs.Bridge.{goes-is, not-goes}
+use Rattle.model.proofs.Correspond.{goes-is, not-goes}
 
 -- ONE MORE ENTRY
 

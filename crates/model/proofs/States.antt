@@ -103,7 +103,7 @@ module _ {w : World} (p : Past w) (v : World) (t : Ticket) (a : Asked) (st : Ste
     few = ih .few;
     right = λ m lt. ⊎-elim
         (λ (i : m ≡ l). rw i (getD-set-same (w .notes .states) l _ Waiting (omega (arith, inside, ih .few, ih .all))))
-        (λ (ne : m ≡ l → ⊥). getD-set-other (w .notes .states) l m _ Waiting ne ∙ ih .right m lt ∙ sym (state-same (wants (w .notes .commands) m) (w .pool) (reached (work w l) .pool) grown (most-new (record-for w l)) l (w .entries) _ (o .going (d .going) .bridge .numbered) (work-adds w l) m ne))
+        (λ (ne : m ≡ l → ⊥). getD-set-other (w .notes .states) l m _ Waiting ne ∙ ih .right m lt ∙ sym (state-same (wants (w .notes .commands) m) (w .pool) (reached (work w l) .pool) grown (most-new (record-for w l)) l (w .entries) _ (o .going (d .going) .corresponds .numbered) (work-adds w l) m ne))
         (cases-eq m l);
   })
 

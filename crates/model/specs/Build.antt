@@ -1,24 +1,8 @@
 -- BUILD, by the smaller calls: one run under the policy, and where that stops, a second one in script order.
-use mathlib.Core.List.{List}
-use mathlib.Core.Bool.{Bool, false, cond, not, _&&_, _||_}
-use Prim.Native.Nat.{ℕ, _+_}
-use lib.Dec.{eqb, ltb}
-use lib.ListN.{length}
-use Rattle.std.specs.declared.option.Option.{Option}
-use Rattle.std.specs.declared.option.Option.the-variants.{Some, None}
-use Rattle.std.specs.declared.result.Result.{Result}
-use Rattle.std.specs.declared.result.Result.the-variants.{Ok, Err}
-use Rattle.model.specs.declared.command.Command.{Command}
-use Rattle.model.specs.declared.refusal.Refusal.{Refusal}
-use Rattle.model.specs.declared.run.Stop.{Stop}
-use Rattle.model.specs.declared.answers.Stepped.{Stepped}
+use Rattle.model.specs.Words.{List, Bool, false, cond, not, _&&_, _||_, ℕ, _+_, eqb, ltb, length, Option, Some, None, Result, Ok, Err, Command, Refusal, Stop, Stepped, Closed, CloseRefusal, Built, BuildRefusal}
 use Rattle.model.specs.declared.answers.Wish.the-variants.{Keep}
-use Rattle.model.specs.declared.answers.Closed.{Closed}
 use Rattle.model.specs.declared.answers.Closed.the-variants.{Kept}
-use Rattle.model.specs.declared.answers.CloseRefusal.{CloseRefusal}
 use Rattle.model.specs.declared.answers.CloseRefusal.the-variants as C
-use Rattle.model.specs.declared.answers.Built.{Built}
-use Rattle.model.specs.declared.answers.BuildRefusal.{BuildRefusal}
 use Rattle.model.specs.declared.answers.BuildRefusal.the-variants.{By, Stopped}
 use Rattle.model.specs.Hazards.{fresh}
 use Rattle.model.specs.World.{World}

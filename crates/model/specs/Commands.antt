@@ -1,15 +1,6 @@
 -- What a line does next, given the contents that it has read so far, the oldest first.
-use mathlib.Core.Bool.{Bool, true, false, cond}
-use mathlib.Core.List.{List, [], _∷_, _++_}
-use Prim.Native.Nat.{ℕ, zero, suc, _/_, _%_}
-use lib.Dec.{eqb, leb}
-use lib.ListN.{length, drop}
-use Rattle.std.specs.shelf.Text.{sameBytes}
-use Rattle.std.specs.declared.option.Option.{Option}
-use Rattle.std.specs.declared.option.Option.the-variants.{Some, None}
-use Rattle.model.specs.declared.command.Kind.{Kind}
+use Rattle.model.specs.Words.{Bool, true, false, cond, List, [], _∷_, _++_, ℕ, zero, suc, _/_, _%_, eqb, leb, length, drop, sameBytes, Option, Some, None, Kind, Command}
 use Rattle.model.specs.declared.command.Kind.the-variants.{Copy, Join, Gather, Choose, Tally, Check}
-use Rattle.model.specs.declared.command.Command.{Command}
 use Rattle.model.specs.Digits.{file-number}
 use Rattle.model.specs.Contents.{Content}
 

@@ -1,13 +1,5 @@
 -- Further laws, which the calls and later pages stand on.
-use mathlib.Core.Path.{_≡_}
-use mathlib.Core.List.{List, [], _∷_, _++_}
-use mathlib.Core.Bool.{Bool, true, false, cond, not}
-use Prim.Native.Nat.{ℕ, zero, suc, _+_, _*_, _≤_, _<_}
-use lib.Dec.{eqb}
-use lib.ListN.{length, getD}
-use Rattle.std.specs.declared.option.Option.the-variants.{Some, None}
-use Rattle.model.specs.declared.command.Command.{Command}
-use Rattle.model.specs.declared.run.Entry.{Entry}
+use Rattle.model.specs.Words.{_≡_, List, [], _∷_, _++_, Bool, true, false, cond, not, ℕ, zero, suc, _+_, _*_, _≤_, _<_, eqb, length, getD, Some, None, Command, Entry}
 use Rattle.model.specs.declared.run.LineState.the-variants.{Waiting}
 use Rattle.model.specs.Records.{Record}
 use Rattle.model.specs.Commands.{wants}

@@ -1,4 +1,5 @@
 -- In reading order.
+pub mod Words
 pub mod Numbers
 pub mod Digits
 pub mod Contents

@@ -1,24 +1,7 @@
 -- The promises, over every past.
-use mathlib.Core.Path.{_≡_}
-use mathlib.Core.List.{List, [], _∷_}
-use mathlib.Core.Bool.{Bool, true, false, cond}
-use Prim.Native.Nat.{ℕ, _+_, _*_, _≤_}
-use lib.Dec.{eqb}
-use lib.ListN.{getD, length}
-use Rattle.std.specs.declared.option.Option.{Option}
-use Rattle.std.specs.declared.option.Option.the-variants.{Some, None}
-use Rattle.std.specs.declared.result.Result.{Result}
-use Rattle.std.specs.declared.result.Result.the-variants.{Ok, Err}
-use Rattle.model.specs.declared.command.Command.{Command}
-use Rattle.model.specs.declared.run.Entry.{Entry}
-use Rattle.model.specs.declared.run.Stop.{Stop}
+use Rattle.model.specs.Words.{_≡_, List, [], _∷_, Bool, true, false, cond, ℕ, _+_, _*_, _≤_, eqb, getD, length, Option, Some, None, Result, Ok, Err, Command, Entry, Stop, Wish, Closed, CloseRefusal, Built, BuildRefusal}
 use Rattle.model.specs.declared.record.Standing.the-variants.{Own}
-use Rattle.model.specs.declared.answers.Wish.{Wish}
-use Rattle.model.specs.declared.answers.Closed.{Closed}
 use Rattle.model.specs.declared.answers.Closed.the-variants.{Kept}
-use Rattle.model.specs.declared.answers.CloseRefusal.{CloseRefusal}
-use Rattle.model.specs.declared.answers.Built.{Built}
-use Rattle.model.specs.declared.answers.BuildRefusal.{BuildRefusal}
 use Rattle.model.specs.declared.answers.BuildRefusal.the-variants.{By, Stopped}
 use Rattle.model.specs.Contents.{Content, Pool, count, used, told}
 use Rattle.model.specs.Records.{Record}
@@ -96,12 +79,12 @@ No-line-starves-in-builds =
     (u v : World) (p : Past u) (cs : List Command) (m n k : ℕ) (a : Result Built BuildRefusal) (b : Builds cs m n u a k v) → Few-of p b
 
 -- Own records are true.
-abbrev pub Honest : Pool → List Record → Type 0
-Honest p [] = Unit {0}
-Honest p (r ∷ rs) = (r .standing ≡ Own → true-in p r ≡ true) × Honest p rs
+abbrev pub Own-true : Pool → List Record → Type 0
+Own-true p [] = Unit {0}
+Own-true p (r ∷ rs) = (r .standing ≡ Own → true-in p r ≡ true) × Own-true p rs
 
 abbrev pub Own-records-true : Type 0
-Own-records-true = (w : World) → Past w → Honest (w .pool) (w .records)
+Own-records-true = (w : World) → Past w → Own-true (w .pool) (w .records)
 
 -- The book has at most one record of a command, and no more records than places.
 abbrev pub Unique : List Record → Type 0
