@@ -70,7 +70,7 @@ told-grown p q g (suc n) h =
     let j = grows-holds p q g (suc n) k in
     told-holds q (suc n) (j .0) ∙ ap Some (j .1) ∙ sym (told-holds p (suc n) k)
 
-known-is : (p : Pool) (n : ℕ) → n ≤ count p → known p n ≡ n
+pub known-is : (p : Pool) (n : ℕ) → n ≤ count p → known p n ≡ n
 known-is p n h = rw (le-leb n (count p) h)
 
 module _ (cs : List Command) (fs : List ℕ) (p₀ : Pool) where

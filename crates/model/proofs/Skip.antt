@@ -180,7 +180,7 @@ pub record Noted (p : Pool) (c : Command) (q : Record) : Type 0 where
   pub same : same-command c (q .command) ≡ true
   pub true-if : q .standing ≡ Own → true-in p q ≡ true
 
-record-is : (p : Pool) (c : Command) (rs : List Record) (q : Record) → Own-true p rs → record-of c rs ≡ Some q → Noted p c q
+pub record-is : (p : Pool) (c : Command) (rs : List Record) (q : Record) → Own-true p rs → record-of c rs ≡ Some q → Noted p c q
 record-is p c [] q h e = let z : _≡_ {A = ℕ} 0 1 = cc in absurd (omega arith)
 record-is p c (r ∷ rs) q h e = by (same-command c (r .command)) refl e (record-is p c rs q (h .1))
   where

@@ -19,7 +19,7 @@ use Rattle.model.specs.declared.run.Entry.{Entry}
 use Rattle.model.specs.declared.record.Standing.the-variants.{Own, Struck}
 use Rattle.model.specs.declared.answers.Stepped.{Stepped}
 use Rattle.model.specs.Contents.{Content, Pool, count, put, cut}
-use Rattle.model.specs.Commands.{wants}
+use Rattle.model.specs.Commands.{Want, wants}
 use Rattle.model.specs.Hazards.{ended}
 use Rattle.model.specs.Acts.{State, Outcome, goes, stops, then, reached, stop-of, act}
 use Rattle.model.specs.Order.{carry}
@@ -57,16 +57,20 @@ going-act b l s r g lt still e =
     let a = acted (b .commands) (b .files) (b .pool) s (g .acts) (g .corresponds) l r lt still e in
     record { acts = a .did ∷ g .acts; corresponds = a .next; steps = (a .ok, g .steps) }
 
-pub going-carry : (b : Found) (k l : ℕ) (s r : State) → Going b s → l < length (b .commands) → carry (wants (b .commands) l) k l s ≡ goes r → Going b r
-going-carry b zero l s r g lt e = subst (Going b) (goes-is e) g
-going-carry b (suc k) l s r g lt e = by (ended l (s .entries)) refl (act (wants (b .commands) l) l s) refl e (λ u h. going-carry b k l u r h lt)
+-- what each act of a line keeps, all of them keep
+pub carry-keeps :
+    (P : State → Type 0) (k : List Content → Want) (l : ℕ) → ((s r : State) → P s → ended l (s .entries) ≡ false → act k l s ≡ goes r → P r) →
+    (n : ℕ) (s r : State) → P s → carry k n l s ≡ goes r → P r
+carry-keeps P k l keeps zero s r h e = subst P (goes-is e) h
+carry-keeps P k l keeps (suc n) s r h e = by (ended l (s .entries)) refl (act k l s) refl e (λ u. carry-keeps P k l keeps n u r)
   where
-    by :
-        (c : Bool) → ended l (s .entries) ≡ c → (t : Outcome) → act (wants (b .commands) l) l s ≡ t → cond c (goes s) (then t (carry (wants (b .commands) l) k l)) ≡ goes r →
-        ((u : State) → Going b u → carry (wants (b .commands) l) k l u ≡ goes r → Going b r) → Going b r
-    by true d t i j ih = subst (Going b) (goes-is j) g
-    by false d (goes u) i j ih = ih u (going-act b l s u g lt d i) j
+    by : (c : Bool) → ended l (s .entries) ≡ c → (t : Outcome) → act k l s ≡ t → cond c (goes s) (then t (carry k n l)) ≡ goes r → ((u : State) → P u → carry k n l u ≡ goes r → P r) → P r
+    by true d t i j ih = subst P (goes-is j) h
+    by false d (goes u) i j ih = ih u (keeps s u h d i) j
     by false d (stops u y) i j ih = not-goes j
+
+pub going-carry : (b : Found) (n l : ℕ) (s r : State) → Going b s → l < length (b .commands) → carry (wants (b .commands) l) n l s ≡ goes r → Going b r
+going-carry b n l s r g lt e = carry-keeps (Going b) (wants (b .commands) l) l (λ u v h still i. going-act b l u v h lt still i) n s r g e
 
 -- THE INVARIANT
 

@@ -69,10 +69,10 @@ state-same k p q g n l es ds h a m ne =
 
 -- THE TABLE
 
-record Table (w : World) : Type 0 where
-  all : length (w .notes .states) ≡ 64
-  few : lines w ≤ 64
-  right : (l : ℕ) → l < lines w → getD (w .notes .states) l Waiting ≡ line-state (wants (w .notes .commands) l) l (w .pool) (w .entries)
+pub record Table (w : World) : Type 0 where
+  pub all : length (w .notes .states) ≡ 64
+  pub few : lines w ≤ 64
+  pub right : (l : ℕ) → l < lines w → getD (w .notes .states) l Waiting ≡ line-state (wants (w .notes .commands) l) l (w .pool) (w .entries)
 
 waiting : (n l : ℕ) → getD (replicate n Waiting) l Waiting ≡ Waiting
 waiting zero l = refl
@@ -107,7 +107,7 @@ module _ {w : World} (p : Past w) (v : World) (t : Ticket) (a : Asked) (st : Ste
         (cases-eq m l);
   })
 
-abbrev Held : World → Type 0
+abbrev pub Held : World → Type 0
 Held w = w .is-open ≡ true → Table w
 
 table-change : (w v : World) → Held w → Change w v → Held v
@@ -128,7 +128,7 @@ table-by {w} p v (on-step t a (Ok st)) h d = λ _. table-step p v t a st d (h (d
 table-by {w} p v (on-step t a (Err r)) h d = table-change w v h (same (d .2))
 table-by {w} p v (on-close t wish a) h d = table-change w v h (close-change t a w v (ending t a w v wish d))
 
-table : {w : World} → Past w → Held w
+pub table : {w : World} → Past w → Held w
 table (new {w} e) = λ i. absurd (both-ways _ (e .is-open) i)
 table (call {w} {v} p c d) = table-by p v c (table p) (d .does)
 

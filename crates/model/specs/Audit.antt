@@ -13,7 +13,7 @@ finding p r = cond (true-in p r) Own Struck
 abbrev pub judged : Pool → Record → Record
 judged p r = record { command = r .command; reads = r .reads; write = r .write; standing = finding p r }
 
-abbrev pub at-place : List Record → ℕ → Option Record
+abbrev pub at-place : {A : Type 0} → List A → ℕ → Option A
 at-place [] k = None
 at-place (r ∷ rs) zero = Some r
 at-place (r ∷ rs) (suc k) = at-place rs k

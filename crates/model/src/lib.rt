@@ -4,7 +4,7 @@
 //! world, and the promises over every past. Each function here whose name ends in `_stands` says in its contract
 //! that such a promise is proved.
 ghost use Rattle.model.specs.Promise.{Kept-as-script-order, Put-back-as-found, Build-as-script-order, Begins-again, No-line-starves, No-line-starves-in-builds, Own-records-true, One-record-a-command, Pool-in-room};
-ghost use Rattle.model.specs.Laws.{Script-order-appends, Lines-counted, Each-line-counted, States-follow, Room-is-left, Room-is-kept, Log-has-room};
+ghost use Rattle.model.specs.Laws.{Script-order-appends, Lines-counted, Each-line-counted, States-follow, Kept-lines-recorded, Room-is-left, Room-is-kept, Log-has-room};
 
 mod answers;
 mod command;
@@ -66,10 +66,11 @@ pub fn fronts_stand() -> u8
     0
 }
 
-/// Own records are true, and the book has at most one record of a command.
+/// Own records are true, the book has at most one record of a command, and a kept run leaves the record of each line.
 pub fn records_stand() -> u8
     ensures own { λ _. ⌜ Own-records-true ⌝ }
     ensures unique { λ _. ⌜ One-record-a-command ⌝ }
+    ensures lines { λ _. ⌜ Kept-lines-recorded ⌝ }
 {
     0
 }
