@@ -23,6 +23,7 @@ use Rattle.model.specs.Records.{Use, Record}
 use Rattle.model.specs.World.{World, state, lines}
 use Rattle.model.specs.Step.{entry, skip, record-for, work-by, work}
 use Rattle.model.proofs.Script.{ended-more}
+use Rattle.model.proofs.Bools.{or-false, and-true}
 use Rattle.model.proofs.Skip.{fresh-has}
 
 -- all entries are of line l
@@ -127,15 +128,7 @@ of-other l m ne (e ∷ es) h =
 pub adds-other : (n l : ℕ) (es ds : List Entry) → Adds n l es ds → (m : ℕ) → (m ≡ l → ⊥) → (fresh m ds ≡ fresh m es) × (ended m ds ≡ ended m es)
 adds-other n l es ds a m ne =
     let o = of-other l m ne (a .new) (a .of) in
-    (rw (a .is, fresh-more m es (a .new), o .0) (and-yes (fresh m es)), rw (a .is, ended-more m es (a .new), o .1) (or-no (ended m es)))
-  where
-    and-yes : (b : Bool) → (b && true) ≡ b
-    and-yes true = refl
-    and-yes false = refl
-
-    or-no : (b : Bool) → (b || false) ≡ b
-    or-no true = refl
-    or-no false = refl
+    (rw (a .is, fresh-more m es (a .new), o .0) (and-true (fresh m es)), rw (a .is, ended-more m es (a .new), o .1) (or-false (ended m es)))
 
 -- a line that has made an act has made one
 pub adds-fresh : (n l : ℕ) (es ds : List Entry) → Adds n l es ds → (m : ℕ) → fresh m es ≡ false → fresh m ds ≡ false

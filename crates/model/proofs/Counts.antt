@@ -1,14 +1,14 @@
 -- The lines that a run's steps executed and skipped are the lines that made an act.
 use mathlib.Core.Path.{_≡_, refl, sym, ap, subst, _∙_}
 use mathlib.Core.Bool.{Bool, true, false, cond, not, _&&_, _||_}
-use mathlib.Core.List.{List, [], _∷_, _++_}
+use mathlib.Core.List.{List, [], _∷_, _++_, append-nil}
 use mathlib.Core.Logic.{⊎-elim}
 use Prim.Native.Nat.{ℕ, zero, suc, _+_, _≤_, _<_}
 use native.Mathlib.Omega.{arith}
 use lib.Dec.{eqb, ltb}
 use lib.ListN.{length}
 use Rattle.std.proofs.shelf.Lists.{length-append}
-use Rattle.std.proofs.shelf.Tests.{cases-bool, cases-eq, cases-lt, both-ways, eq-eqb, ne-eqb, lt-ltb}
+use Rattle.std.proofs.shelf.Tests.{cases-bool, cases-eq, cases-lt, both-ways, eq-eqb, ne-eqb, lt-ltb, or-right}
 use Rattle.std.specs.declared.option.Option.{Option}
 use Rattle.std.specs.declared.option.Option.the-variants.{Some, None}
 use Rattle.std.specs.declared.result.Result.the-variants.{Ok}
@@ -21,10 +21,11 @@ use Rattle.model.specs.Acts.{State, Outcome, goes, stops, reached, stop-of}
 use Rattle.model.specs.Records.{Record}
 use Rattle.model.specs.Policies.{Asked}
 use Rattle.model.specs.World.{World, state, lines}
-use Rattle.model.specs.Step.{Worked, usable, skips-at, record-for, skipping, work-by, work}
+use Rattle.model.specs.Step.{Worked, record-for, skipping, work-by, work}
 use Rattle.model.specs.Calls.{on-begin, on-step, Did}
 use Rattle.model.specs.Build.{Steps, no-step, a-step, executed, skipped, acted, end, Whole}
 use Rattle.model.specs.Laws.{how-many, Lines-counted, Each-line-counted}
+use Rattle.model.proofs.Skip.{skips-fresh}
 use Rattle.model.proofs.Changes.{ending}
 use Rattle.model.proofs.Sound.{left-parts, all-below}
 use Rattle.model.proofs.Moves.{skip-ends}
@@ -54,15 +55,12 @@ many-all t (suc n) h = rw (h n (omega arith), many-all t n (λ l lt. h l (omega 
 
 -- A SKIP is of a line that has made no act, and ends it
 
-module _ (rs : List Record) (l : ℕ) (s : State) where
-  at-fresh : (cs : List Command) (k : ℕ) → skipping (skips-at rs cs k l s) ≡ true → fresh l (s .entries) ≡ true
-  at-fresh [] k h = absurd (both-ways false refl h)
-  at-fresh (c ∷ cs) zero h = by (fresh l (s .entries)) _ h
-    where
-      by : (b : Bool) (o : Option Record) → skipping (cond b o None) ≡ true → b ≡ true
-      by true o h = refl
-      by false o h = absurd (both-ways false refl h)
-  at-fresh (c ∷ cs) (suc k) h = at-fresh cs k h
+skipping-fresh : (w : World) (l : ℕ) → skipping (record-for w l) ≡ true → fresh l (w .entries) ≡ true
+skipping-fresh w l h = by (record-for w l) refl h
+  where
+    by : (o : Option Record) → record-for w l ≡ o → skipping o ≡ true → fresh l (w .entries) ≡ true
+    by None e h = absurd (both-ways false refl h)
+    by (Some q) e h = skips-fresh (w .records) l (state w) q (w .notes .commands) l e
 
 skip-ended : (w : World) (l : ℕ) → skipping (record-for w l) ≡ true → stop-of (work w l) ≡ None → ended l (reached (work w l) .entries) ≡ true
 skip-ended w l h g = by (record-for w l) h (work-by (record-for w l) (w .notes .commands) l (state w)) refl g
@@ -92,10 +90,6 @@ record Counted {m n : ℕ} {x : World} {k : ℕ} {v : World} (cs : List Command)
   all : executed h + skipped h ≡ how-many (λ l. not (fresh l (v .entries))) (length cs)
   was : (l : ℕ) → acted l h ≡ true → fresh l (v .entries) ≡ false
   now : v .notes .stop ≡ None → (l : ℕ) → fresh l (v .entries) ≡ false → ended l (v .entries) ≡ false → acted l h ≡ true
-
-or-true : (b : Bool) → (b || true) ≡ true
-or-true true = refl
-or-true false = refl
 
 module _ {m n : ℕ} {x : World} {k : ℕ} {v w : World} (cs : List Command) (h : Steps m n x k v) (j : ℕ) (s : Stepped) (d : Worked None (record { patience = m; before = k; after = j }) s v w) (ih : Counted cs h) where
   abbrev l : ℕ
@@ -138,11 +132,7 @@ module _ {m n : ℕ} {x : World} {k : ℕ} {v w : World} (cs : List Command) (h 
   grows f = by (adds .new) (adds .is)
     where
       by : (new : List Entry) → ds ≡ es ++ new → grew ≡ true
-      by [] e = absurd (both-ways (fresh l es) (sym (ap (fresh l) (e ∙ nil es)) ∙ now-acted) f)
-        where
-          nil : (xs : List Entry) → xs ++ [] ≡ xs
-          nil [] = refl
-          nil (y ∷ ys) = ap (λ z. y ∷ z) (nil ys)
+      by [] e = absurd (both-ways (fresh l es) (sym (ap (fresh l) (e ∙ append-nil es)) ∙ now-acted) f)
       by (e ∷ new) i = lt-ltb (length es) (length ds) (omega (arith, ap length i, length-append es (e ∷ new)))
 
   abbrev Now : Bool → Type 0
@@ -188,7 +178,7 @@ module _ {m n : ℕ} {x : World} {k : ℕ} {v w : World} (cs : List Command) (h 
   own-on g = rw (eq-eqb l l refl, g)
 
   own-kept : acted l h ≡ true → then-acted false l ≡ true
-  own-kept e = rw e (or-true _)
+  own-kept e = rw e (or-right _ true refl)
 
   first-counts : fresh l es ≡ true → Now false
   first-counts f = rw f (
@@ -202,7 +192,7 @@ module _ {m n : ℕ} {x : World} {k : ℕ} {v w : World} (cs : List Command) (h 
   later-counts f =
       let on = ih .now (d .going) l f still in
       rw f (
-        omega (arith, ih .one, many-same (then-acted false) (λ i. acted i h) (length cs) (λ i _. ⊎-elim (λ (same : i ≡ l). rw (same, on) (or-true _)) (λ ne. others-same false i ne) (cases-eq i l))),
+        omega (arith, ih .one, many-same (then-acted false) (λ i. acted i h) (length cs) (λ i _. ⊎-elim (λ (same : i ≡ l). rw (same, on) (or-right _ true refl)) (λ ne. others-same false i ne) (cases-eq i l))),
         omega (arith, ih .all, none-more f),
         was-now false,
         λ g i a b. ⊎-elim (λ (same : i ≡ l). rw same (own-kept on)) (λ ne. others-now false i ne a b) (cases-eq i l),
@@ -213,7 +203,7 @@ module _ {m n : ℕ} {x : World} {k : ℕ} {v w : World} (cs : List Command) (h 
     where
       by : (b : Bool) → s .skipped ≡ b → (c : Bool) → fresh l es ≡ c → Now b
       by true q true f = skip-counts q f
-      by true q false f = absurd (both-ways _ f (at-fresh (v .records) l (state v) (v .notes .commands) l (sym (d .skipped) ∙ q)))
+      by true q false f = absurd (both-ways _ f (skipping-fresh v l (sym (d .skipped) ∙ q)))
       by false q true f = first-counts f
       by false q false f = later-counts f
 

@@ -10,7 +10,6 @@ use lib.ListN.{length, getD, set}
 use lib.Seq.{getD-set-other}
 use Rattle.std.proofs.shelf.Tests.{both-ways, or-parts, and-from, eqb-false, eq-eqb}
 use Rattle.std.specs.declared.option.Option.the-variants.{Some, None}
-use Rattle.std.specs.declared.result.Result.the-variants.{Ok, Err}
 use Rattle.model.specs.declared.run.Entry.{Entry}
 use Rattle.model.specs.declared.answers.Stepped.{Stepped}
 use Rattle.model.specs.Commands.{wants}
@@ -21,12 +20,11 @@ use Rattle.model.specs.Policies.{Asked}
 use Rattle.model.specs.World.{World, state, lines}
 use Rattle.model.specs.Begin.{Ticket}
 use Rattle.model.specs.Step.{match, Worked, work, after-work}
-use Rattle.model.specs.Calls.{Call, on-lay, on-load, on-audit, on-begin, on-step, on-close, Does}
-use Rattle.model.specs.Past.{Past, new, call, Found, found}
+use Rattle.model.specs.Past.{Past, Found, found}
 use Rattle.model.proofs.Entries.{clashes, hit, met-quiet}
 use Rattle.model.proofs.Correspond.{known-is}
 use Rattle.model.proofs.Script.{Read-act, Write-act, was}
-use Rattle.model.proofs.Changes.{Change, same, lay-done, load-done, audit-done, back-done, keep-done, lay-change, load-change, audit-change, ending, close-change}
+use Rattle.model.proofs.Changes.{open-law}
 use Rattle.model.proofs.Sound.{Going, going-act, carry-keeps, sound, work-is, left-parts}
 
 abbrev pub Current : List ℕ → List Entry → Type 0
@@ -71,7 +69,7 @@ current-act b l s r g h e = ⊎-elim read write (was (b .commands) l s r e)
         rw (a .is) (current-more _ (s .entries) n (current-set (s .files) n refl (s .entries) (met-quiet n (s .entries) (a .quiet)) h) (λ w. absurd (both-ways true w refl)))
 
 abbrev Held : World → Type 0
-Held w = w .is-open ≡ true → w .notes .stop ≡ None → Current (w .files) (w .entries)
+Held w = w .notes .stop ≡ None → Current (w .files) (w .entries)
 
 module _ {w : World} (p : Past w) (v : World) (t : Ticket) (a : Asked) (st : Stepped) (d : Worked t a st w v) (ih : Current (w .files) (w .entries)) where
   abbrev l : ℕ
@@ -94,29 +92,10 @@ module _ {w : World} (p : Past w) (v : World) (t : Ticket) (a : Asked) (st : Ste
           (work-is w b o l)
 
       by : (u : Outcome) → work w l ≡ u → Held (after-work w l u)
-      by (stops s y) e = λ i j. let z : _≡_ {A = ℕ} 0 1 = cc in absurd (omega arith)
-      by (goes s) e = λ _ _. gone s e
+      by (stops s y) e = λ j. let z : _≡_ {A = ℕ} 0 1 = cc in absurd (omega arith)
+      by (goes s) e = λ _. gone s e
 
 -- ANY CALL
 
-current-change : (w v : World) → Held w → Change w v → Held v
-current-change w v h (same e) = rw e h
-current-change w v h (lay-done hs s c e i) = λ k. absurd (both-ways _ (ap (λ x. x .is-open) i ∙ c) k)
-current-change w v h (load-done t p c e n i) = λ k. absurd (both-ways _ (ap (λ x. x .is-open) i ∙ c) k)
-current-change w v h (audit-done j r c e i) = λ k. absurd (both-ways _ (ap (λ x. x .is-open) i ∙ c) k)
-current-change w v h (back-done c i) = λ k. absurd (both-ways _ (ap (λ x. x .is-open) i) k)
-current-change w v h (keep-done c s a i) = λ k. absurd (both-ways _ (ap (λ x. x .is-open) i) k)
-
-current-by : {w : World} (p : Past w) (v : World) (c : Call) → Held w → Does c w v → Held v
-current-by {w} p v (on-lay hs a) h d = current-change w v h (lay-change w v hs a d)
-current-by {w} p v (on-load t a) h d = current-change w v h (load-change w v t a d)
-current-by {w} p v (on-audit k a) h d = current-change w v h (audit-change w v k a d)
-current-by {w} p v (on-begin cs None) h d = rw (d .2) (λ _ _. tt)
-current-by {w} p v (on-begin cs (Some r)) h d = current-change w v h (same (d .1))
-current-by {w} p v (on-step t a (Ok st)) h d = current-step p v t a st d (h (d .is-open) (d .going))
-current-by {w} p v (on-step t a (Err r)) h d = current-change w v h (same (d .2))
-current-by {w} p v (on-close t wish a) h d = current-change w v h (close-change t a w v (ending t a w v wish d))
-
 pub current : {w : World} → Past w → w .is-open ≡ true → w .notes .stop ≡ None → Current (w .files) (w .entries)
-current (new {w} e) = λ i. absurd (both-ways _ (e .is-open) i)
-current (call {w} {v} p c d) = current-by p v c (current p) (d .does)
+current = open-law Held (λ w cs e few _. tt) (λ w p v t a st d h. current-step p v t a st d (h (d .going)))

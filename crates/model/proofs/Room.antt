@@ -7,10 +7,9 @@ use Prim.Native.Nat.{ℕ, zero, suc, _+_, _*_, _≤_, _<_}
 use native.Mathlib.Omega.{arith}
 use lib.Dec.{eqb, leb}
 use lib.ListN.{length, getD}
-use Rattle.std.proofs.shelf.Tests.{cases-bool, cases-eq, cases-lt, both-ways, eq-eqb, ne-eqb, and-parts, not-true}
+use Rattle.std.proofs.shelf.Tests.{cases-bool, cases-eq, cases-lt, both-ways, eq-eqb, ne-eqb, and-parts, not-true, or-right}
 use Rattle.std.specs.declared.option.Option.{Option}
 use Rattle.std.specs.declared.option.Option.the-variants.{Some, None}
-use Rattle.std.specs.declared.result.Result.the-variants.{Ok, Err}
 use Rattle.model.specs.declared.command.Command.{Command}
 use Rattle.model.specs.declared.run.Entry.{Entry}
 use Rattle.model.specs.declared.run.Hazard.{Hazard}
@@ -21,14 +20,13 @@ use Rattle.model.specs.Hazards.{fresh, ended, has-read, hazard}
 use Rattle.model.specs.Acts.{State, Outcome, goes, stops, reached, stop-at, tested, noted, written, writing, attempt, act}
 use Rattle.model.specs.Records.{Use, Record}
 use Rattle.model.specs.World.{World, state, lines}
-use Rattle.model.specs.Step.{entry, skip, skips-at, left, record-for, work-by, work}
-use Rattle.model.specs.Calls.{Call, on-lay, on-load, on-audit, on-begin, on-step, on-close, Does}
-use Rattle.model.specs.Past.{Past, new, call, found}
+use Rattle.model.specs.Step.{entry, skip, left, record-for, work-by, work}
+use Rattle.model.specs.Past.{Past, found}
 use Rattle.model.specs.Laws.{acts-made, Room, Room-is-left, Room-is-kept, Log-has-room}
 use Rattle.model.proofs.Brief.{brief}
 use Rattle.model.proofs.Script.{ended-more}
-use Rattle.model.proofs.Skip.{fresh-has, skips-at-is, skips-few}
-use Rattle.model.proofs.Changes.{Change, same, lay-done, load-done, audit-done, back-done, keep-done, lay-change, load-change, audit-change, ending, close-change}
+use Rattle.model.proofs.Skip.{skips-fresh, skips-at-is, skips-few}
+use Rattle.model.proofs.Changes.{open-law}
 use Rattle.model.proofs.Sound.{sound, Ready, ready, left-parts, own-true-now}
 use Rattle.model.proofs.Adds.{Of, Adds, work-adds, act-adds, skip-adds, adds-other}
 
@@ -113,11 +111,7 @@ abbrev Fewer : ℕ → List Entry → Type 0
 Fewer l ds = ended l ds ≡ false → acts-made l ds ≤ 16
 
 wrote-ended : (l : ℕ) (es : List Entry) (e : Entry) → e .line ≡ l → e .wrote ≡ true → ended l (es ++ e ∷ []) ≡ true
-wrote-ended l es e h w = ended-more l es (e ∷ []) ∙ rw (eq-eqb l (e .line) (sym h), w) (or-true (ended l es))
-  where
-    or-true : (b : Bool) → (b || true) ≡ true
-    or-true true = refl
-    or-true false = refl
+wrote-ended l es e h w = ended-more l es (e ∷ []) ∙ rw (eq-eqb l (e .line) (sym h), w) (or-right _ true refl)
 
 module _ (cs : List Command) (l : ℕ) (s : State) (still : ended l (s .entries) ≡ false) (few : acts-made l (s .entries) ≤ 16) where
   write-fewer : (f : ℕ) (p : Pool) (n : ℕ) → Fewer l (reached (writing l s f p n) .entries)
@@ -161,16 +155,6 @@ skip-fewer l n (r ∷ rs) u s le few h = by (hazard (entry l false r) (s .entrie
     by (Some x) ih h = omega (arith, one)
     by None ih h = ih h
 
--- a skip is of a line that has made no act
-skips-fresh : (rs : List Record) (l : ℕ) (s : State) (q : Record) (cs : List Command) (k : ℕ) → skips-at rs cs k l s ≡ Some q → fresh l (s .entries) ≡ true
-skips-fresh rs l s q [] k e = let z : _≡_ {A = ℕ} 0 1 = cc in absurd (omega arith)
-skips-fresh rs l s q (c ∷ cs) zero e = by (fresh l (s .entries)) _ e
-  where
-    by : (b : Bool) (o : Option Record) → cond b o None ≡ Some q → b ≡ true
-    by true o h = refl
-    by false o h = let z : _≡_ {A = ℕ} 0 1 = cc in absurd (omega arith)
-skips-fresh rs l s q (c ∷ cs) (suc k) e = skips-fresh rs l s q cs k e
-
 module _ (w : World) (r : Room (lines w) (w .log-places) (w .entries)) (l : ℕ) (m : left (lines w) (w .entries) l ≡ true) (brief-records : (q : Record) → record-for w l ≡ Some q → length (q .reads) ≤ 16) where
   still : ended l (w .entries) ≡ false
   still = left-parts (lines w) (w .entries) l m .1
@@ -200,18 +184,7 @@ module _ (w : World) (r : Room (lines w) (w .log-places) (w .entries)) (l : ℕ)
 pub room-is-kept : Room-is-kept
 room-is-kept w r l m short = kept-room w r l m short
 
--- ANY CALL
-
-abbrev Held : World → Type 0
-Held w = w .is-open ≡ true → Room (lines w) (w .log-places) (w .entries)
-
-room-change : (w v : World) → Held w → Change w v → Held v
-room-change w v h (same e) = rw e h
-room-change w v h (lay-done hs s c e i) = λ k. absurd (both-ways _ (ap (λ x. x .is-open) i ∙ c) k)
-room-change w v h (load-done t p c e n i) = λ k. absurd (both-ways _ (ap (λ x. x .is-open) i ∙ c) k)
-room-change w v h (audit-done j r c e i) = λ k. absurd (both-ways _ (ap (λ x. x .is-open) i ∙ c) k)
-room-change w v h (back-done c i) = λ k. absurd (both-ways _ (ap (λ x. x .is-open) i) k)
-room-change w v h (keep-done c s a i) = λ k. absurd (both-ways _ (ap (λ x. x .is-open) i) k)
+-- OVER EVERY PAST
 
 -- a true record has at most 16 reads
 records-brief : {w : World} (p : Past w) → w .is-open ≡ true → (l : ℕ) (q : Record) → record-for w l ≡ Some q → length (q .reads) ≤ 16
@@ -219,19 +192,10 @@ records-brief {w} p i l q e =
     let o = sound p .open-run i in
     skips-few (w .notes .commands) l (state w) q (w .pool) (skips-at-is (w .pool) (w .records) (own-true-now (found p) w o) l (state w) q (w .notes .commands) l e)
 
-room-by : {w : World} (p : Past w) (v : World) (c : Call) → Held w → Does c w v → Held v
-room-by {w} p v (on-lay hs a) h d = room-change w v h (lay-change w v hs a d)
-room-by {w} p v (on-load t a) h d = room-change w v h (load-change w v t a d)
-room-by {w} p v (on-audit k a) h d = room-change w v h (audit-change w v k a d)
-room-by {w} p v (on-begin cs None) h d = λ _. rw (d .2) (record { enough = ready cs w (d .0) .log-room; inside = λ l le. refl; few = λ l. omega arith; fewer = λ l e. omega arith })
-room-by {w} p v (on-begin cs (Some r)) h d = room-change w v h (same (d .1))
-room-by {w} p v (on-step t a (Ok st)) h d = λ _. rw (d .world) (kept-room w (h (d .is-open)) (st .line) (d .answer .member (d .leads)) (records-brief p (d .is-open) (st .line)))
-room-by {w} p v (on-step t a (Err r)) h d = room-change w v h (same (d .2))
-room-by {w} p v (on-close t wish a) h d = room-change w v h (close-change t a w v (ending t a w v wish d))
-
-room : {w : World} → Past w → Held w
-room (new {w} e) = λ i. absurd (both-ways _ (e .is-open) i)
-room (call {w} {v} p c d) = room-by p v c (room p) (d .does)
+room : {w : World} → Past w → w .is-open ≡ true → Room (lines w) (w .log-places) (w .entries)
+room = open-law (λ w. Room (lines w) (w .log-places) (w .entries))
+    (λ w cs e few. record { enough = ready cs w e .log-room; inside = λ l le. refl; few = λ l. omega arith; fewer = λ l h. omega arith })
+    (λ w p v t a st d h. rw (d .world) (kept-room w h (st .line) (d .answer .member (d .leads)) (records-brief p (d .is-open) (st .line))))
 
 pub log-has-room : Log-has-room
 log-has-room w p i = room p i

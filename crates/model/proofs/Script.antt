@@ -8,7 +8,7 @@ use native.Mathlib.Omega.{arith}
 use lib.Dec.{eqb, leb}
 use lib.ListN.{length, getD}
 use Rattle.std.proofs.shelf.Lists.{length-append}
-use Rattle.std.proofs.shelf.Tests.{cases-lt, both-ways, eq-eqb}
+use Rattle.std.proofs.shelf.Tests.{cases-lt, both-ways, eq-eqb, or-right}
 use Rattle.std.specs.declared.option.Option.{Option}
 use Rattle.std.specs.declared.option.Option.the-variants.{Some, None}
 use Rattle.model.specs.declared.command.Command.{Command}
@@ -113,11 +113,7 @@ module _ (cs : List Command) (l : ℕ) (s r : State) where
       read a = inr (brief cs l (a .file) xs (a .asks), rw (a .is, has-read-more (s .pool) l (s .entries) (record { line = l; wrote = false; file = a .file; number = a .number } ∷ []), own, length-append xs (content (s .pool) (a .number) ∷ [])) (omega arith))
 
       write : Write-act cs l s r → Nearer
-      write a = inl (rw (a .is, ended-more l (s .entries) (record { line = l; wrote = true; file = a .file; number = suc (a .number) } ∷ []), own) (or-true (ended l (s .entries))))
-        where
-          or-true : (b : Bool) → (b || true) ≡ true
-          or-true true = refl
-          or-true false = refl
+      write a = inl (rw (a .is, ended-more l (s .entries) (record { line = l; wrote = true; file = a .file; number = suc (a .number) } ∷ []), own) (or-right _ true refl))
 
   pub stays : act (wants cs l) l s ≡ goes r → (m : ℕ) → ended m (s .entries) ≡ true → ended m (r .entries) ≡ true
   stays e m h = ⊎-elim read write (was e)

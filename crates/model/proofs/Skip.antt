@@ -175,6 +175,16 @@ fresh-has p l (e ∷ es) h =
     let ih = fresh-has p l es (b .1) in
     (rw out (ih .0), rw out (ih .1))
 
+-- a skip is of a line that has made no act
+pub skips-fresh : (rs : List Record) (l : ℕ) (s : State) (q : Record) (cs : List Command) (k : ℕ) → skips-at rs cs k l s ≡ Some q → fresh l (s .entries) ≡ true
+skips-fresh rs l s q [] k e = let z : _≡_ {A = ℕ} 0 1 = cc in absurd (omega arith)
+skips-fresh rs l s q (c ∷ cs) zero e = by (fresh l (s .entries)) _ e
+  where
+    by : (b : Bool) (o : Option Record) → cond b o None ≡ Some q → b ≡ true
+    by true o h = refl
+    by false o h = let z : _≡_ {A = ℕ} 0 1 = cc in absurd (omega arith)
+skips-fresh rs l s q (c ∷ cs) (suc k) e = skips-fresh rs l s q cs k e
+
 -- a record of the list, of that command
 pub record Noted (p : Pool) (c : Command) (q : Record) : Type 0 where
   pub same : same-command c (q .command) ≡ true

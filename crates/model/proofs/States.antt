@@ -9,8 +9,6 @@ use lib.Dec.{eqb}
 use lib.ListN.{length, getD, set, length-set, replicate}
 use lib.Seq.{getD-set-same, getD-set-other}
 use Rattle.std.proofs.shelf.Tests.{cases-eq, both-ways, ne-eqb}
-use Rattle.std.specs.declared.option.Option.the-variants.{Some, None}
-use Rattle.std.specs.declared.result.Result.the-variants.{Ok, Err}
 use Rattle.model.specs.declared.run.Entry.{Entry}
 use Rattle.model.specs.declared.run.LineState.{LineState}
 use Rattle.model.specs.declared.run.LineState.the-variants.{Waiting, Reading, Ended}
@@ -23,14 +21,14 @@ use Rattle.model.specs.Policies.{Asked}
 use Rattle.model.specs.World.{World, state, lines}
 use Rattle.model.specs.Begin.{Ticket}
 use Rattle.model.specs.Step.{Worked, record-for, work}
-use Rattle.model.specs.Calls.{Call, on-lay, on-load, on-audit, on-begin, on-step, on-close, Does}
-use Rattle.model.specs.Past.{Past, new, call, found}
+use Rattle.model.specs.Past.{Past, found}
 use Rattle.model.specs.Laws.{States-follow}
 use Rattle.model.proofs.Pools.{Grows, grows-refl, grows-trans, grows-put, grows-holds}
+use Rattle.model.proofs.Bools.{or-false}
 use Rattle.model.proofs.Entries.{Numbered}
 use Rattle.model.proofs.Script.{has-read-more}
 use Rattle.model.proofs.Growth.{act-pool, carry-pool}
-use Rattle.model.proofs.Changes.{Change, same, lay-done, load-done, audit-done, back-done, keep-done, lay-change, load-change, audit-change, ending, close-change}
+use Rattle.model.proofs.Changes.{open-law}
 use Rattle.model.proofs.Sound.{Sound, sound, Open, work-is, left-parts}
 use Rattle.model.proofs.Adds.{Of, Adds, most-new, work-adds, adds-other}
 
@@ -60,12 +58,8 @@ state-same k p q g n l es ds h a m ne =
     let o = adds-other n l es ds a m ne in
     let x = of-other q l m ne (a .new) (a .of) in
     let seen : has-read q m ds ≡ has-read p m es = ap (has-read q m) (a .is) ∙ has-read-more q m es (a .new) ∙ ap (λ ys. has-read q m es ++ ys) (x .0) ∙ append-nil _ ∙ has-read-grown p q g m es h in
-    let missed : read-absent m ds ≡ read-absent m es = ap (read-absent m) (a .is) ∙ absent-more m es (a .new) ∙ rw (x .1) (or-no (read-absent m es)) in
+    let missed : read-absent m ds ≡ read-absent m es = ap (read-absent m) (a .is) ∙ absent-more m es (a .new) ∙ rw (x .1) (or-false (read-absent m es)) in
     rw (o .0, o .1, seen, missed)
-  where
-    or-no : (b : Bool) → (b || false) ≡ b
-    or-no true = refl
-    or-no false = refl
 
 -- THE TABLE
 
@@ -107,30 +101,8 @@ module _ {w : World} (p : Past w) (v : World) (t : Ticket) (a : Asked) (st : Ste
         (cases-eq m l);
   })
 
-abbrev pub Held : World → Type 0
-Held w = w .is-open ≡ true → Table w
-
-table-change : (w v : World) → Held w → Change w v → Held v
-table-change w v h (same e) = rw e h
-table-change w v h (lay-done hs s c e i) = λ k. absurd (both-ways _ (ap (λ x. x .is-open) i ∙ c) k)
-table-change w v h (load-done t p c e n i) = λ k. absurd (both-ways _ (ap (λ x. x .is-open) i ∙ c) k)
-table-change w v h (audit-done j r c e i) = λ k. absurd (both-ways _ (ap (λ x. x .is-open) i ∙ c) k)
-table-change w v h (back-done c i) = λ k. absurd (both-ways _ (ap (λ x. x .is-open) i) k)
-table-change w v h (keep-done c s a i) = λ k. absurd (both-ways _ (ap (λ x. x .is-open) i) k)
-
-table-by : {w : World} (p : Past w) (v : World) (c : Call) → Held w → Does c w v → Held v
-table-by {w} p v (on-lay hs a) h d = table-change w v h (lay-change w v hs a d)
-table-by {w} p v (on-load t a) h d = table-change w v h (load-change w v t a d)
-table-by {w} p v (on-audit k a) h d = table-change w v h (audit-change w v k a d)
-table-by {w} p v (on-begin cs None) h d = λ _. rw (d .2) (record { all = refl; few = d .1; right = λ l lt. waiting 64 l })
-table-by {w} p v (on-begin cs (Some r)) h d = table-change w v h (same (d .1))
-table-by {w} p v (on-step t a (Ok st)) h d = λ _. table-step p v t a st d (h (d .is-open))
-table-by {w} p v (on-step t a (Err r)) h d = table-change w v h (same (d .2))
-table-by {w} p v (on-close t wish a) h d = table-change w v h (close-change t a w v (ending t a w v wish d))
-
-pub table : {w : World} → Past w → Held w
-table (new {w} e) = λ i. absurd (both-ways _ (e .is-open) i)
-table (call {w} {v} p c d) = table-by p v c (table p) (d .does)
+pub table : {w : World} → Past w → w .is-open ≡ true → Table w
+table = open-law Table (λ w cs e few. record { all = refl; few = few; right = λ l lt. waiting 64 l }) (λ w p v t a st d h. table-step p v t a st d h)
 
 pub states-follow : States-follow
 states-follow w p i l lt = table p i .right l lt

@@ -6,7 +6,7 @@ use Prim.Native.Nat.{ℕ, zero, suc}
 use native.Mathlib.Omega.{arith}
 use lib.Dec.{eqb}
 use lib.ListN.{length, drop}
-use Rattle.std.proofs.shelf.Tests.{both-ways, eqb-true, eq-eqb}
+use Rattle.std.proofs.shelf.Tests.{both-ways, eqb-true, eq-eqb, or-right}
 use Rattle.std.specs.declared.option.Option.{Option}
 use Rattle.std.specs.declared.option.Option.the-variants.{Some, None}
 use Rattle.model.specs.declared.command.Kind.{Kind}
@@ -77,10 +77,6 @@ aims (c ∷ cs) (suc l) f xs x e = aims cs l f xs x e
 
 -- ONE WRITER A FILE
 
-or-true : (b c : Bool) → c ≡ true → (b || c) ≡ true
-or-true true c h = refl
-or-true false c h = h
-
 module _ (w : Start) (to : ℕ → ℕ) (to-is : (l f : ℕ) (xs : List Content) (x : Content) → w .want l xs ≡ writes f x → f ≡ to l) where
   -- another write to the file of a line that has ended is a hazard
   wrote-hits : (t : Trace) → Steps w t → (j : ℕ) → Trace.ended j t ≡ true → (l : ℕ) (x : Content) → clash (wr l (to j) x) t ≡ true
@@ -88,8 +84,8 @@ module _ (w : Start) (to : ℕ → ℕ) (to-is : (l f : ℕ) (xs : List Content)
   wrote-hits (a ∷ t) r j e l x = by (eqb j (line a)) refl a (r .0) refl e (λ k. wrote-hits t (r .1) j k l x)
     where
       by : (q : Bool) → eqb j (line a) ≡ q → (b : Event) → Ok w t b → a ≡ b → ends (cond q (b ∷ mine j t) (mine j t)) ≡ true → (Trace.ended j t ≡ true → clash (wr l (to j) x) t ≡ true) → clash (wr l (to j) x) (b ∷ t) ≡ true
-      by false d b o s k ih = or-true _ _ (ih k)
-      by true d (rd m f y) o s k ih = or-true _ _ (ih k)
+      by false d b o s k ih = or-right _ _ (ih k)
+      by true d (rd m f y) o s k ih = or-right _ _ (ih k)
       by true d (wr m f y) o s k ih =
           let same : j ≡ m = eqb-true _ _ d ∙ ap line s in
           rw (same, to-is m f _ y (o .wants), eq-eqb (to m) (to m) refl)
