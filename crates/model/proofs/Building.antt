@@ -1,6 +1,6 @@
 -- What a build comes to, by its runs: a first run that is kept agrees with script order, and a second run is script order; and its fronts.
 use mathlib.Core.Path.{_≡_, refl, sym, ap, subst, _∙_}
-use mathlib.Core.Bool.{true, false}
+use mathlib.Core.Bool.{false}
 use mathlib.Core.List.{List, [], _∷_}
 use mathlib.Core.Logic.{inr, ⊎-elim}
 use Prim.Native.Nat.{ℕ, suc, _+_, _*_, _≤_, _<_}
@@ -10,7 +10,6 @@ use Rattle.std.proofs.shelf.Tests.{le-ltb, or-from}
 use Rattle.std.specs.declared.option.Option.{Option}
 use Rattle.std.specs.declared.option.Option.the-variants.{Some, None}
 use Rattle.std.specs.declared.result.Result.{Result}
-use Rattle.std.specs.declared.result.Result.the-variants.{Ok}
 use Rattle.model.specs.declared.command.Command.{Command}
 use Rattle.model.specs.declared.run.Stop.{Stop}
 use Rattle.model.specs.declared.answers.Stepped.{Stepped}
@@ -20,11 +19,11 @@ use Rattle.model.specs.declared.answers.BuildRefusal.{BuildRefusal}
 use Rattle.model.specs.Contents.{count}
 use Rattle.model.specs.Commands.{wants}
 use Rattle.model.specs.Hazards.{ended}
-use Rattle.model.specs.Acts.{State, Outcome, goes, stops, stop-of, act}
+use Rattle.model.specs.Acts.{State, Outcome, goes, stops, act}
 use Rattle.model.specs.Order.{in-order, carry}
 use Rattle.model.specs.Policies.{Asked}
 use Rattle.model.specs.World.{World, state, lines}
-use Rattle.model.specs.Begin.{Ticket, least-places, some-above, begin-refusal, begun}
+use Rattle.model.specs.Begin.{Ticket, least-places, some-above, begun}
 use Rattle.model.specs.Step.{Worked, work, after-work}
 use Rattle.model.specs.Calls.{on-begin, on-close, Did}
 use Rattle.model.specs.Past.{Past, call, Ran, none, more, after, joined, Found, found, fronts, One-policy}

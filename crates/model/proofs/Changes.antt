@@ -32,7 +32,7 @@ use Rattle.model.specs.Audit.{at-place, judged, Audited, Audits}
 use Rattle.model.specs.Begin.{Ticket, begin-refusal, begun}
 use Rattle.model.specs.Step.{all-ended, Worked}
 use Rattle.model.specs.Policies.{Asked}
-use Rattle.model.specs.Close.{put-back, kept, closing-open, closing-live, Closes-by, Closes, closing}
+use Rattle.model.specs.Close.{put-back, kept, closing-open, closing-live, Closes-by, Closes}
 use Rattle.model.specs.Calls.{Call, on-lay, on-load, on-audit, on-begin, on-step, on-close, Does}
 use Rattle.model.specs.Past.{Past, new, call}
 

@@ -6,16 +6,13 @@ use native.Mathlib.Omega.{arith}
 use lib.ListN.{length}
 use Rattle.std.proofs.shelf.Tests.{both-ways}
 use Rattle.std.specs.declared.option.Option.the-variants.{Some, None}
-use Rattle.std.specs.declared.result.Result.{Result}
 use Rattle.std.specs.declared.result.Result.the-variants.{Ok, Err}
 use Rattle.model.specs.declared.run.Stop.{Stop}
-use Rattle.model.specs.declared.answers.Closed.{Closed}
 use Rattle.model.specs.declared.answers.Closed.the-variants.{Kept}
-use Rattle.model.specs.declared.answers.CloseRefusal.{CloseRefusal}
 use Rattle.model.specs.declared.answers.CloseRefusal.the-variants.{Stopped}
 use Rattle.model.specs.Contents.{cut}
 use Rattle.model.specs.Order.{in-order}
-use Rattle.model.specs.World.{World, state, lines}
+use Rattle.model.specs.World.{World, lines}
 use Rattle.model.specs.Begin.{Ticket}
 use Rattle.model.specs.Step.{all-ended}
 use Rattle.model.specs.Close.{put-back, kept}

@@ -17,13 +17,12 @@ use Rattle.model.specs.declared.run.Entry.{Entry}
 use Rattle.model.specs.declared.answers.Stepped.{Stepped}
 use Rattle.model.specs.declared.answers.Wish.the-variants.{Keep}
 use Rattle.model.specs.Hazards.{fresh, ended}
-use Rattle.model.specs.Acts.{State, Outcome, goes, stops, reached, stop-of}
+use Rattle.model.specs.Acts.{Outcome, goes, stops, reached, stop-of}
 use Rattle.model.specs.Records.{Record}
-use Rattle.model.specs.Policies.{Asked}
 use Rattle.model.specs.World.{World, state, lines}
 use Rattle.model.specs.Step.{Worked, record-for, skipping, work-by, work}
 use Rattle.model.specs.Calls.{on-begin, on-step, Did}
-use Rattle.model.specs.Build.{Steps, no-step, a-step, executed, skipped, acted, end, Whole}
+use Rattle.model.specs.Build.{Steps, no-step, a-step, executed, skipped, acted, end}
 use Rattle.model.specs.Laws.{how-many, Lines-counted, Each-line-counted}
 use Rattle.model.proofs.Skip.{skips-fresh}
 use Rattle.model.proofs.Changes.{ending}

@@ -1,19 +1,18 @@
 -- In a run that has not stopped, each file that was read still has the number that was read.
-use mathlib.Core.Path.{_≡_, refl, sym, ap, subst, _∙_}
-use mathlib.Core.Bool.{Bool, true, false, cond, not, _&&_, _||_}
+use mathlib.Core.Path.{_≡_, refl, sym, _∙_}
+use mathlib.Core.Bool.{Bool, true, false, cond, not, _&&_}
 use mathlib.Core.List.{List, [], _∷_, _++_}
 use mathlib.Core.Logic.{⊎-elim}
 use Prim.Native.Nat.{ℕ, suc, _<_}
 use native.Mathlib.Omega.{arith}
-use lib.Dec.{eqb, ltb}
+use lib.Dec.{eqb}
 use lib.ListN.{length, getD, set}
 use lib.Seq.{getD-set-other}
 use Rattle.std.proofs.shelf.Tests.{both-ways, or-parts, and-from, eqb-false, eq-eqb}
-use Rattle.std.specs.declared.option.Option.the-variants.{Some, None}
+use Rattle.std.specs.declared.option.Option.the-variants.{None}
 use Rattle.model.specs.declared.run.Entry.{Entry}
 use Rattle.model.specs.declared.answers.Stepped.{Stepped}
 use Rattle.model.specs.Commands.{wants}
-use Rattle.model.specs.Hazards.{ended}
 use Rattle.model.specs.Acts.{State, Outcome, goes, stops, act}
 use Rattle.model.specs.Book.{use-of, reads-of}
 use Rattle.model.specs.Policies.{Asked}

@@ -9,7 +9,7 @@ use Rattle.model.specs.declared.command.Command.{Command}
 use Rattle.model.specs.Contents.{Pool, count}
 use Rattle.model.specs.Hazards.{ended}
 use Rattle.model.specs.Acts.{State}
-use Rattle.model.specs.Order.{script, in-order}
+use Rattle.model.specs.Order.{in-order}
 use Rattle.model.specs.World.{World, state}
 use Rattle.model.specs.Promise.{acts-of, Agrees}
 use Rattle.model.proofs.Trace as Trace

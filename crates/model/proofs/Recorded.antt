@@ -1,14 +1,13 @@
 -- After a run is kept, each of its lines could be skipped at once by the record that it gave.
-use mathlib.Core.Path.{_≡_, refl, sym, ap, subst, _∙_}
-use mathlib.Core.Bool.{Bool, true, false, cond, _&&_}
+use mathlib.Core.Path.{_≡_, refl, sym, ap, _∙_}
+use mathlib.Core.Bool.{Bool, true, false, cond}
 use mathlib.Core.List.{List, [], _∷_, _++_}
 use mathlib.Core.Logic.{⊎-elim}
-use Prim.Native.Nat.{ℕ, zero, suc, _+_, _≤_, _<_}
+use Prim.Native.Nat.{ℕ, suc, _+_, _≤_, _<_}
 use native.Mathlib.Omega.{arith}
 use lib.ListN.{length}
 use Rattle.std.proofs.shelf.Tests.{cases-bool, both-ways, and-parts, and-from}
-use Rattle.std.specs.declared.option.Option.{Option}
-use Rattle.std.specs.declared.option.Option.the-variants.{Some, None}
+use Rattle.std.specs.declared.option.Option.the-variants.{Some}
 use Rattle.std.specs.declared.result.Result.the-variants.{Ok}
 use Rattle.model.specs.declared.command.Command.{Command}
 use Rattle.model.specs.declared.answers.Closed.the-variants.{Kept}
@@ -17,11 +16,11 @@ use Rattle.model.specs.Commands.{Want, want}
 use Rattle.model.specs.Acts.{State}
 use Rattle.model.specs.Records.{Use, Record}
 use Rattle.model.specs.Truth.{asks, follows}
-use Rattle.model.specs.Book.{own, same-command, record-of, in-script, recorded, keeps}
-use Rattle.model.specs.World.{World, state, lines}
+use Rattle.model.specs.Book.{own, same-command, record-of, in-script, recorded}
+use Rattle.model.specs.World.{state, lines}
 use Rattle.model.specs.Step.{all-held, match, usable}
 use Rattle.model.specs.Calls.{on-close}
-use Rattle.model.specs.Past.{Past, call, found}
+use Rattle.model.specs.Past.{call, found}
 use Rattle.model.specs.Laws.{Kept-lines-recorded}
 use Rattle.model.proofs.Trace as Trace
 use Rattle.model.proofs.Correspond.{start, ended-is}

@@ -2,22 +2,22 @@
 use mathlib.Core.Path.{_≡_, refl, sym, ap, subst, _∙_}
 use mathlib.Core.Bool.{Bool, true, false, cond, not, _&&_, _||_}
 use mathlib.Core.List.{List, [], _∷_, _++_}
-use mathlib.Core.Logic.{_⊎_, inl, inr, ⊎-elim}
+use mathlib.Core.Logic.{⊎-elim}
 use Prim.Native.Nat.{ℕ, zero, suc, _+_, _*_, _≤_, _<_}
 use native.Mathlib.Omega.{arith}
 use lib.Dec.{eqb, leb}
-use lib.ListN.{length, getD}
-use Rattle.std.proofs.shelf.Tests.{cases-bool, cases-eq, cases-lt, both-ways, eq-eqb, ne-eqb, and-parts, not-true, or-right}
+use lib.ListN.{length}
+use Rattle.std.proofs.shelf.Tests.{cases-eq, cases-lt, both-ways, eq-eqb, ne-eqb, and-parts, not-true, or-right}
 use Rattle.std.specs.declared.option.Option.{Option}
 use Rattle.std.specs.declared.option.Option.the-variants.{Some, None}
 use Rattle.model.specs.declared.command.Command.{Command}
 use Rattle.model.specs.declared.run.Entry.{Entry}
 use Rattle.model.specs.declared.run.Hazard.{Hazard}
 use Rattle.model.specs.declared.run.Fault.the-variants.{TooLong}
-use Rattle.model.specs.Contents.{Content, Pool, content, given, put}
+use Rattle.model.specs.Contents.{Pool, content, given, put}
 use Rattle.model.specs.Commands.{Want, reads, writes, bad, wants}
 use Rattle.model.specs.Hazards.{fresh, ended, has-read, hazard}
-use Rattle.model.specs.Acts.{State, Outcome, goes, stops, reached, stop-at, tested, noted, written, writing, attempt, act}
+use Rattle.model.specs.Acts.{State, goes, stops, reached, stop-at, tested, noted, written, writing, attempt, act}
 use Rattle.model.specs.Records.{Use, Record}
 use Rattle.model.specs.World.{World, state, lines}
 use Rattle.model.specs.Step.{entry, skip, left, record-for, work-by, work}
@@ -27,7 +27,7 @@ use Rattle.model.proofs.Brief.{brief}
 use Rattle.model.proofs.Script.{ended-more}
 use Rattle.model.proofs.Skip.{skips-fresh, skips-at-is, skips-few}
 use Rattle.model.proofs.Changes.{open-law}
-use Rattle.model.proofs.Sound.{sound, Ready, ready, left-parts, own-true-now}
+use Rattle.model.proofs.Sound.{sound, ready, left-parts, own-true-now}
 use Rattle.model.proofs.Adds.{Of, Adds, work-adds, act-adds, skip-adds, adds-other}
 
 -- COUNTING ENTRIES

@@ -31,7 +31,6 @@ use Rattle.model.specs.Load.{hints, hinted}
 use Rattle.model.specs.Audit.{at-place, judged, finding}
 use Rattle.model.specs.Begin.{Ticket, least-places, some-above, begin-refusal, begun}
 use Rattle.model.specs.Step.{Worked, left, all-ended, record-for, work-by, work, after-work}
-use Rattle.model.specs.Close.{put-back, kept}
 use Rattle.model.specs.Calls.{Call, on-lay, on-load, on-audit, on-begin, on-step, on-close, Does}
 use Rattle.model.specs.Past.{Past, new, call, Found, found-by, found}
 use Rattle.model.specs.Promise.{Own-true}

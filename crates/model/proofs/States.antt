@@ -1,22 +1,21 @@
 -- In an open run the state of each line is the one that its entries tell: a step turns its own line, and no other line's state changes.
-use mathlib.Core.Path.{_≡_, refl, sym, ap, subst, _∙_}
-use mathlib.Core.Bool.{Bool, true, false, cond, _&&_, _||_}
+use mathlib.Core.Path.{_≡_, refl, sym, ap, _∙_}
+use mathlib.Core.Bool.{Bool, true, false, _&&_, _||_}
 use mathlib.Core.List.{List, [], _∷_, _++_, append-nil}
 use mathlib.Core.Logic.{⊎-elim}
 use Prim.Native.Nat.{ℕ, zero, suc, _≤_, _<_}
 use native.Mathlib.Omega.{arith}
 use lib.Dec.{eqb}
-use lib.ListN.{length, getD, set, length-set, replicate}
+use lib.ListN.{length, getD, length-set, replicate}
 use lib.Seq.{getD-set-same, getD-set-other}
-use Rattle.std.proofs.shelf.Tests.{cases-eq, both-ways, ne-eqb}
+use Rattle.std.proofs.shelf.Tests.{cases-eq, ne-eqb}
 use Rattle.model.specs.declared.run.Entry.{Entry}
-use Rattle.model.specs.declared.run.LineState.{LineState}
-use Rattle.model.specs.declared.run.LineState.the-variants.{Waiting, Reading, Ended}
+use Rattle.model.specs.declared.run.LineState.the-variants.{Waiting}
 use Rattle.model.specs.declared.answers.Stepped.{Stepped}
-use Rattle.model.specs.Contents.{Content, Pool, content, put}
+use Rattle.model.specs.Contents.{Content, Pool, put}
 use Rattle.model.specs.Commands.{Want, wants}
-use Rattle.model.specs.Hazards.{fresh, ended, has-read}
-use Rattle.model.specs.Acts.{reached, read-absent, state-by, line-state}
+use Rattle.model.specs.Hazards.{has-read}
+use Rattle.model.specs.Acts.{reached, read-absent, line-state}
 use Rattle.model.specs.Policies.{Asked}
 use Rattle.model.specs.World.{World, state, lines}
 use Rattle.model.specs.Begin.{Ticket}
@@ -29,7 +28,7 @@ use Rattle.model.proofs.Entries.{Numbered}
 use Rattle.model.proofs.Script.{has-read-more}
 use Rattle.model.proofs.Growth.{act-pool, carry-pool}
 use Rattle.model.proofs.Changes.{open-law}
-use Rattle.model.proofs.Sound.{Sound, sound, Open, work-is, left-parts}
+use Rattle.model.proofs.Sound.{sound, Open, work-is, left-parts}
 use Rattle.model.proofs.Adds.{Of, Adds, most-new, work-adds, adds-other}
 
 -- OTHER LINES

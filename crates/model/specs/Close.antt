@@ -1,5 +1,5 @@
 -- CLOSE ends a run: it is kept, or put back to what begin found.
-use Rattle.model.specs.Words.{_≡_, Bool, true, false, length, Option, Some, None, Result, Ok, Err, Refusal, Stop, Wish, Closed, CloseRefusal}
+use Rattle.model.specs.Words.{_≡_, Bool, true, false, Option, Some, None, Result, Ok, Err, Refusal, Stop, Wish, Closed, CloseRefusal}
 use Rattle.model.specs.declared.refusal.Refusal.the-variants.{LinesLeft, NoRun}
 use Rattle.model.specs.declared.answers.Wish.the-variants as Wishes
 use Rattle.model.specs.declared.answers.Closed.the-variants.{Kept, PutBack}

@@ -1,5 +1,5 @@
 -- LOAD puts the contents of a trace file into the pool, and takes its records into the book as hints.
-use Rattle.model.specs.Words.{_≡_, Bool, true, false, cond, List, [], _∷_, map, ℕ, _-_, eqb, leb, length, getD, Option, Some, None, Result, Ok, Err, Refusal}
+use Rattle.model.specs.Words.{_≡_, Bool, true, false, cond, List, [], _∷_, map, _-_, eqb, leb, length, getD, Option, Some, None, Result, Ok, Err, Refusal}
 use Rattle.model.specs.declared.refusal.Refusal.the-variants.{NoRoomToLoad}
 use Rattle.model.specs.declared.record.Standing.the-variants.{Hint}
 use Rattle.model.specs.Contents.{Content, Pool, find, given, put}

@@ -1,5 +1,5 @@
 -- When a record is true.
-use Rattle.model.specs.Words.{Bool, true, false, _&&_, List, [], _∷_, _++_, ℕ, eqb, sameBytes}
+use Rattle.model.specs.Words.{Bool, false, _&&_, List, [], _∷_, _++_, ℕ, eqb, sameBytes}
 use Rattle.model.specs.Contents.{Content, Pool, holds, content}
 use Rattle.model.specs.Records.{Use, Record}
 use Rattle.model.specs.Commands.{Want, reads, writes, bad, want}
