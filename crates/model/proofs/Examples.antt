@@ -18,7 +18,7 @@ use Rattle.model.specs.declared.run.LineState.the-variants.{Waiting, Writing, 
 use Rattle.model.specs.declared.record.Standing.the-variants.{Hint, Own, Struck}
 use Rattle.model.specs.declared.answers.Stepped.{Stepped}
 use Rattle.model.specs.Contents.{Pool}
-use Rattle.model.specs.Commands.{listed, agrees, sheets}
+use Rattle.model.specs.Commands.{listed, is-yes, sheets}
 use Rattle.model.specs.Acts.{goes, stops, stop-of, stop-at}
 use Rattle.model.specs.Order.{in-order}
 use Rattle.model.specs.Records.{Record}
@@ -53,7 +53,7 @@ lists : (listed [] ≡ Some []) × (listed (48 ∷ 50 ∷ 48 ∷ 51 ∷ []) ≡ 
 lists = (refl, refl, refl, refl)
 
 -- a choose reads its second file where the first begins with `y`, and its third where it is empty
-choices : (agrees (121 ∷ 101 ∷ []) ≡ true) × (agrees [] ≡ false)
+choices : (is-yes (121 ∷ 101 ∷ []) ≡ true) × (is-yes [] ≡ false)
 choices = (refl, refl)
 
 -- FILES: file 0 has `0203`, file 2 has `b`, file 3 has `c`

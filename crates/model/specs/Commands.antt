@@ -39,9 +39,9 @@ gathers b xs None = bad
 gathers b xs (Some fs) = next-listed b xs (drop (length xs) fs)
 
 -- CHOOSE: what it tests, that the first byte is `y`
-abbrev pub agrees : Content → Bool
-agrees [] = false
-agrees (c ∷ cs) = eqb c 121
+abbrev pub is-yes : Content → Bool
+is-yes [] = false
+is-yes (c ∷ cs) = eqb c 121
 
 -- TALLY: what it writes for a length, 64 bytes to a sheet, in four bytes with the most significant first
 abbrev pub sheets : ℕ → Content
@@ -62,7 +62,7 @@ next Join a b c d (x ∷ y ∷ xs) = writes c (x ++ y)
 next Gather a b c d [] = reads a
 next Gather a b c d (l ∷ xs) = gathers b xs (listed l)
 next Choose a b c d [] = reads a
-next Choose a b c d (x ∷ []) = reads (cond (agrees x) b c)
+next Choose a b c d (x ∷ []) = reads (cond (is-yes x) b c)
 next Choose a b c d (x ∷ y ∷ xs) = writes d y
 next Tally a b c d [] = reads a
 next Tally a b c d (x ∷ xs) = writes b (sheets (length x))

@@ -3,12 +3,14 @@ use Rattle.model.specs.Words.{_≡_, List, [], _∷_, Bool, true, false, cond,
 use Rattle.model.specs.declared.record.Standing.the-variants.{Own}
 use Rattle.model.specs.declared.answers.Closed.the-variants.{Kept}
 use Rattle.model.specs.declared.answers.BuildRefusal.the-variants.{By, Stopped}
+use Rattle.model.specs.Numbers.{number-of}
 use Rattle.model.specs.Contents.{Content, Pool, count, used, told}
 use Rattle.model.specs.Records.{Record}
 use Rattle.model.specs.Acts.{Outcome, goes, stops}
 use Rattle.model.specs.Order.{in-order}
 use Rattle.model.specs.Truth.{true-in}
 use Rattle.model.specs.Book.{has-record}
+use Rattle.model.specs.Answers.{fault-refusal, unbuilt}
 use Rattle.model.specs.World.{World}
 use Rattle.model.specs.Begin.{Ticket, begin-refusal}
 use Rattle.model.specs.Calls.{Did, on-close}
@@ -45,17 +47,23 @@ Put-back-as-found =
     (w v : World) (p : Past w) (wish : Wish) (a : Result Closed CloseRefusal) → w .is-open ≡ true → Did (on-close None wish a) w v → (a ≡ Ok Kept → ⊥) →
     (v .files ≡ found p .files) × (v .pool ≡ found p .pool)
 
--- A build whose begin is accepted is kept exactly where script order does not stop, and then leaves the world as script order does; else it stops with the very stop of script order.
+-- A build whose begin is accepted is kept exactly where script order does not stop, and then leaves the world as script order does; else it stops with the very stop of script order, and is told by its number.
 abbrev pub Ends-as : Result Built BuildRefusal → World → Outcome → Type 0
 Ends-as (Ok b) v t = Agrees v t
 Ends-as (Err (By r)) v t = Unit {0}
 Ends-as (Err (Stopped y b)) v (goes s) = ⊥
-Ends-as (Err (Stopped y b)) v (stops s x) = y ≡ x
+Ends-as (Err (Stopped y b)) v (stops s x) = (y ≡ x) × (number-of (unbuilt (Stopped y b)) ≡ number-of (fault-refusal (x .fault)))
 
 abbrev pub Build-as-script-order : Type 0
 Build-as-script-order =
     (u v : World) → Past u → (cs : List Command) (m n k : ℕ) (a : Result Built BuildRefusal) → Builds cs m n u a k v →
     Ends-as a v (in-order cs (u .files) (u .pool))
+
+-- A build that stops leaves files and pool as it found them.
+abbrev pub Stopped-build-puts-back : Type 0
+Stopped-build-puts-back =
+    (u v : World) → Past u → (cs : List Command) (m n k : ℕ) (y : Stop) (b : Built) → Builds cs m n u (Err (Stopped y b)) k v →
+    (v .files ≡ u .files) × (v .pool ≡ u .pool)
 
 -- Where its first run stopped, its second begin is accepted.
 abbrev pub Begins-again : Type 0
