@@ -11,6 +11,7 @@ pub mod Records
 pub mod Truth
 pub mod Book
 pub mod Policies
+pub mod Asks
 pub mod Answers
 pub mod World
 pub mod Lay

@@ -1,4 +1,5 @@
 ghost use mathlib.Core.Path.{_≡_};
+ghost use Rattle.model.specs.Book.{same-command};
 ghost use Rattle.model.specs.Numbers.{kind-number, arity};
 
 /// What a line does with its files.
@@ -41,4 +42,11 @@ pub struct Command {
     pub b: u8,
     pub c: u8,
     pub d: u8,
+}
+
+/// Two commands are the same: kind for kind and file for file.
+pub fn same_command(a: Command, b: Command) -> bool
+    ensures { λ r. ⌜ r ≡ same-command a b ⌝ }
+{
+    a.kind.number() == b.kind.number() && a.a == b.a && a.b == b.b && a.c == b.c && a.d == b.d
 }

@@ -8,6 +8,8 @@ ghost use Rattle.model.specs.Laws.{Script-order-appends, Lines-counted, Each-l
 
 mod answers;
 mod command;
+mod digits;
+mod fairness;
 mod record;
 mod refusal;
 mod run;
@@ -21,9 +23,13 @@ pub use answers::Stepped;
 pub use answers::Wish;
 pub use command::Command;
 pub use command::Kind;
+pub use command::same_command;
+pub use digits::file_number;
+pub use fairness::asks_stand;
 pub use record::Record;
 pub use record::Standing;
 pub use record::Use;
+pub use record::record_of;
 pub use refusal::Refusal;
 pub use run::Entry;
 pub use run::Fault;

@@ -1,0 +1,5 @@
+mod Layouts
+mod Rules
+mod Tables
+mod Walks
+pub mod Trips

@@ -1,0 +1,4 @@
+pub mod Layout
+pub mod Drafts
+pub mod Laws
+pub mod Images

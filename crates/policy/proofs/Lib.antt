@@ -1,0 +1,4 @@
+pub mod Lines
+pub mod Choices
+pub mod Waiting
+pub mod Asking

@@ -1,0 +1,10 @@
+mod Adds
+mod Cuts
+mod EachByte
+mod Facts
+mod Gets
+mod Labels
+mod Sounds
+mod Splits
+mod TextLines
+mod Turns

@@ -1,0 +1,5 @@
+pub mod Text
+pub mod Words
+pub mod Views
+pub mod Sound
+pub mod Scripts
