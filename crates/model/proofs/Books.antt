@@ -119,10 +119,10 @@ evict-length cs q (r ∷ rs) = by (in-script (r .command) cs) (evict-length cs q
     by true ih = ap suc ih
     by false ih = refl
 
-abbrev Good : ℕ → List Record → Type 0
+abbrev pub Good : ℕ → List Record → Type 0
 Good places rs = Unique rs × (length rs ≤ places)
 
-keep-good : (cs : List Command) (places : ℕ) (q : Record) (rs : List Record) → Good places rs → Good places (keep cs places q rs)
+pub keep-good : (cs : List Command) (places : ℕ) (q : Record) (rs : List Record) → Good places rs → Good places (keep cs places q rs)
 keep-good cs places q rs g = by (has-record (q .command) rs) refl (ltb (length rs) places) refl
   where
     by : (b : Bool) → has-record (q .command) rs ≡ b → (c : Bool) → ltb (length rs) places ≡ c → Good places (cond b (replace q rs) (cond c (rs ++ q ∷ []) (evict cs q rs)))
@@ -159,7 +159,7 @@ good-by w v (on-step t a (Ok st)) g d = rw (d .world) g
 good-by w v (on-step t a (Err r)) g d = good-change w v g (same (d .2))
 good-by w v (on-close t wish a) g d = good-change w v g (close-change t a w v (ending t a w v wish d))
 
-good : {w : World} → Past w → Good (w .book-places) (w .records)
+pub good : {w : World} → Past w → Good (w .book-places) (w .records)
 good (new {w} e) = rw (e .records) (tt, omega arith)
 good (call {w} {v} p c d) = good-by w v c (good p) (d .does)
 

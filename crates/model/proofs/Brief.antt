@@ -1,10 +1,10 @@
 -- No command reads more than 16 times. Assumes nothing.
 use mathlib.Core.Path.{_≡_, refl, sym, ap, _∙_}
-use mathlib.Core.Bool.{Bool, true, false, cond, _&&_}
+use mathlib.Core.Bool.{Bool, true, false, cond}
 use mathlib.Core.List.{List, [], _∷_}
 use Prim.Native.Nat.{ℕ, zero, suc, _+_, _≤_, _<_}
 use native.Mathlib.Omega.{arith}
-use lib.Dec.{leb, ltb}
+use lib.Dec.{leb}
 use lib.ListN.{length, drop, length-drop}
 use Rattle.std.proofs.shelf.Tests.{leb-true}
 use Rattle.std.specs.declared.option.Option.{Option}
@@ -12,7 +12,6 @@ use Rattle.std.specs.declared.option.Option.the-variants.{Some, None}
 use Rattle.model.specs.declared.command.Kind.{Kind}
 use Rattle.model.specs.declared.command.Kind.the-variants.{Copy, Join, Gather, Choose, Tally, Check}
 use Rattle.model.specs.declared.command.Command.{Command}
-use Rattle.model.specs.Digits.{digit}
 use Rattle.model.specs.Digits.{file-number}
 use Rattle.model.specs.Contents.{Content}
 use Rattle.model.specs.Commands.{reads, writes, bad, with-file, pairs, listed, next-listed, gathers, next, wants}

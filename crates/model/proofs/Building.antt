@@ -1,6 +1,6 @@
 -- What a build comes to, by its runs: a first run that is kept agrees with script order, and a second run is script order; and its fronts.
 use mathlib.Core.Path.{_≡_, refl, sym, ap, subst, _∙_}
-use mathlib.Core.Bool.{true, false}
+use mathlib.Core.Bool.{false}
 use mathlib.Core.List.{List, [], _∷_}
 use mathlib.Core.Logic.{inr, ⊎-elim}
 use Prim.Native.Nat.{ℕ, suc, _+_, _*_, _≤_, _<_}
@@ -10,26 +10,27 @@ use Rattle.std.proofs.shelf.Tests.{le-ltb, or-from}
 use Rattle.std.specs.declared.option.Option.{Option}
 use Rattle.std.specs.declared.option.Option.the-variants.{Some, None}
 use Rattle.std.specs.declared.result.Result.{Result}
-use Rattle.std.specs.declared.result.Result.the-variants.{Ok}
+use Rattle.std.specs.declared.result.Result.the-variants.{Ok, Err}
 use Rattle.model.specs.declared.command.Command.{Command}
 use Rattle.model.specs.declared.run.Stop.{Stop}
 use Rattle.model.specs.declared.answers.Stepped.{Stepped}
 use Rattle.model.specs.declared.answers.Wish.the-variants.{Keep}
 use Rattle.model.specs.declared.answers.Built.{Built}
 use Rattle.model.specs.declared.answers.BuildRefusal.{BuildRefusal}
+use Rattle.model.specs.declared.answers.BuildRefusal.the-variants.{Stopped}
 use Rattle.model.specs.Contents.{count}
 use Rattle.model.specs.Commands.{wants}
 use Rattle.model.specs.Hazards.{ended}
-use Rattle.model.specs.Acts.{State, Outcome, goes, stops, stop-of, act}
+use Rattle.model.specs.Acts.{State, Outcome, goes, stops, act}
 use Rattle.model.specs.Order.{in-order, carry}
 use Rattle.model.specs.Policies.{Asked}
 use Rattle.model.specs.World.{World, state, lines}
-use Rattle.model.specs.Begin.{Ticket, least-places, some-above, begin-refusal, begun}
+use Rattle.model.specs.Begin.{Ticket, least-places, some-above, begun}
 use Rattle.model.specs.Step.{Worked, work, after-work}
 use Rattle.model.specs.Calls.{on-begin, on-close, Did}
 use Rattle.model.specs.Past.{Past, call, Ran, none, more, after, joined, Found, found, fronts, One-policy}
 use Rattle.model.specs.Build.{Steps, no-step, a-step, stepped, end, Whole, whole, answer, Builds, refused, once, twice}
-use Rattle.model.specs.Promise.{Agrees, Ends-as, Build-as-script-order, Begins-again, Few, Few-of, No-line-starves-in-builds}
+use Rattle.model.specs.Promise.{Agrees, Ends-as, Build-as-script-order, Stopped-build-puts-back, Begins-again, Few, Few-of, No-line-starves-in-builds}
 use Rattle.model.proofs.Script.{upto, script-is, Done, act-stops, act-goes, line-stops, line-goes, carry-ends}
 use Rattle.model.proofs.Changes.{ending}
 use Rattle.model.proofs.Sound.{Sound, sound, Open, work-is, left-parts}
@@ -155,7 +156,7 @@ whole-backs : {cs : List Command} {m n : ℕ} {u v : World} (y : Stop) (r : Whol
 whole-backs {cs} {m} {n} {u} {v} y r = backs-by None (r .last) v y (ending None (end (Some y)) (r .last) v Keep (r .close .does))
 
 stopped-ends : (y : Stop) (b : Built) (v : World) (s : State) (t : Outcome) → t ≡ stops s y → Ends-as (answer (Some y) b) v t
-stopped-ends y b v s t e = rw e refl
+stopped-ends y b v s t e = rw e (refl, refl)
 
 -- the second run
 whole-front : {cs : List Command} {u v : World} (p : Past u) (e : Option Stop) (b : Built) (r : Whole cs 0 0 e u v) → Ends-as (answer e b) v (in-order cs (u .files) (u .pool))
@@ -195,3 +196,22 @@ ends-as p (twice y e r q) = twice-ends p y e r q _
 
 pub build-as-script-order : Build-as-script-order
 build-as-script-order u v p cs m n k a b = ends-as p b
+
+-- a build that stops, stopped in its second run
+pub stopped-build-puts-back : Stopped-build-puts-back
+stopped-build-puts-back u v p cs m n k y b d = by d refl
+  where
+    not-ok : {A : Type 0} {o : Built} → Ok o ≡ Err (Stopped y b) → A
+    not-ok e = let z : _≡_ {A = ℕ} 0 1 = cc in absurd (omega arith)
+
+    second : {x : World} (z : Stop) (e : Option Stop) (o : Built) (r : Whole cs m n (Some z) u x) (q : Whole cs 0 0 e x v) → answer e o ≡ Err (Stopped y b) → (v .files ≡ u .files) × (v .pool ≡ u .pool)
+    second z None o r q e = not-ok e
+    second z (Some s) o r q e =
+        let first = put-back-same p z r in
+        let last = put-back-same (after p (whole r)) s q in
+        (last .0 ∙ first .0, last .1 ∙ first .1)
+
+    by : {a : Result Built BuildRefusal} {j : ℕ} → Builds cs m n u a j v → a ≡ Err (Stopped y b) → (v .files ≡ u .files) × (v .pool ≡ u .pool)
+    by (refused r x) e = let z : _≡_ {A = ℕ} 0 1 = cc in absurd (omega arith)
+    by (once r) e = not-ok e
+    by (twice z e r q) i = second z e _ r q i

@@ -1,12 +1,12 @@
 -- What a call can do to the world, case by case, so that a law over pasts is shown for each case once. Assumes nothing.
-use mathlib.Core.Path.{_≡_, refl}
+use mathlib.Core.Path.{_≡_, refl, ap, _∙_}
 use mathlib.Core.Bool.{Bool, true, false}
 use mathlib.Core.List.{List}
 use Prim.Native.Nat.{ℕ, _≤_}
 use native.Mathlib.Omega.{arith}
 use lib.Dec.{leb}
 use lib.ListN.{length, set}
-use Rattle.std.proofs.shelf.Tests.{leb-true}
+use Rattle.std.proofs.shelf.Tests.{both-ways, leb-true}
 use Rattle.std.specs.declared.option.Option.{Option}
 use Rattle.std.specs.declared.option.Option.the-variants.{Some, None}
 use Rattle.std.specs.declared.result.Result.{Result}
@@ -15,6 +15,8 @@ use Rattle.model.specs.declared.refusal.Refusal.{Refusal}
 use Rattle.model.specs.declared.refusal.Refusal.the-variants.{LinesLeft}
 use Rattle.model.specs.declared.run.Stop.{Stop}
 use Rattle.model.specs.declared.record.Standing.{Standing}
+use Rattle.model.specs.declared.command.Command.{Command}
+use Rattle.model.specs.declared.answers.Stepped.{Stepped}
 use Rattle.model.specs.declared.answers.Wish.{Wish}
 use Rattle.model.specs.declared.answers.Wish.the-variants as Wishes
 use Rattle.model.specs.declared.answers.Closed.{Closed}
@@ -27,9 +29,12 @@ use Rattle.model.specs.World.{World, lines, stocked, Unless-open}
 use Rattle.model.specs.Lay.{Have, Stock, laid, Laid, Lays}
 use Rattle.model.specs.Load.{Traced, puts, hints, Placed, Pooled, Loaded, Loads}
 use Rattle.model.specs.Audit.{at-place, judged, Audited, Audits}
-use Rattle.model.specs.Begin.{Ticket}
-use Rattle.model.specs.Step.{all-ended}
-use Rattle.model.specs.Close.{put-back, kept, closing-open, closing-live, Closes-by, Closes, closing}
+use Rattle.model.specs.Begin.{Ticket, begin-refusal, begun}
+use Rattle.model.specs.Step.{all-ended, Worked}
+use Rattle.model.specs.Policies.{Asked}
+use Rattle.model.specs.Close.{put-back, kept, closing-open, closing-live, Closes-by, Closes}
+use Rattle.model.specs.Calls.{Call, on-lay, on-load, on-audit, on-begin, on-step, on-close, Does}
+use Rattle.model.specs.Past.{Past, new, call}
 
 -- a call that opens no run and makes no act: it changed nothing, or one of these
 pub data Change (w v : World) : Type 0 where
@@ -107,3 +112,31 @@ module _ (t : Ticket) (a : Result Closed CloseRefusal) (w v : World) where
   close-change (wish-back o e i) = back-done o i
   close-change (early-back o e i) = back-done o i
   close-change (all-kept o s k e i) = keep-done o s k i
+
+-- A LAW OF OPEN RUNS holds over every past where a begin and each working step bring it about
+module _ (P : World → Type 0) where
+  open-change : (w v : World) → (w .is-open ≡ true → P w) → Change w v → v .is-open ≡ true → P v
+  open-change w v h (same e) = rw e h
+  open-change w v h (lay-done hs s c e i) = λ k. absurd (both-ways _ (ap (λ x. x .is-open) i ∙ c) k)
+  open-change w v h (load-done t p c e n i) = λ k. absurd (both-ways _ (ap (λ x. x .is-open) i ∙ c) k)
+  open-change w v h (audit-done j r c e i) = λ k. absurd (both-ways _ (ap (λ x. x .is-open) i ∙ c) k)
+  open-change w v h (back-done c i) = λ k. absurd (both-ways _ (ap (λ x. x .is-open) i) k)
+  open-change w v h (keep-done c s a i) = λ k. absurd (both-ways _ (ap (λ x. x .is-open) i) k)
+
+  module _
+      (begins : (w : World) (cs : List Command) → begin-refusal cs w ≡ None → length cs ≤ 64 → P (begun cs w))
+      (steps : (w : World) → Past w → (v : World) (t : Ticket) (a : Asked) (s : Stepped) → Worked t a s w v → P w → P v)
+    where
+      open-by : {w : World} (p : Past w) (v : World) (c : Call) → (w .is-open ≡ true → P w) → Does c w v → v .is-open ≡ true → P v
+      open-by {w} p v (on-lay hs a) h d = open-change w v h (lay-change w v hs a d)
+      open-by {w} p v (on-load t a) h d = open-change w v h (load-change w v t a d)
+      open-by {w} p v (on-audit k a) h d = open-change w v h (audit-change w v k a d)
+      open-by {w} p v (on-begin cs None) h d = λ _. rw (d .2) (begins w cs (d .0) (d .1))
+      open-by {w} p v (on-begin cs (Some r)) h d = open-change w v h (same (d .1))
+      open-by {w} p v (on-step t a (Ok s)) h d = λ _. steps w p v t a s d (h (d .is-open))
+      open-by {w} p v (on-step t a (Err r)) h d = open-change w v h (same (d .2))
+      open-by {w} p v (on-close t wish a) h d = open-change w v h (close-change t a w v (ending t a w v wish d))
+
+      pub open-law : {w : World} → Past w → w .is-open ≡ true → P w
+      open-law (new {w} e) = λ i. absurd (both-ways _ (e .is-open) i)
+      open-law (call {w} {v} p c d) = open-by p v c (open-law p) (d .does)

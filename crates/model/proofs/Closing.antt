@@ -6,24 +6,21 @@ use native.Mathlib.Omega.{arith}
 use lib.ListN.{length}
 use Rattle.std.proofs.shelf.Tests.{both-ways}
 use Rattle.std.specs.declared.option.Option.the-variants.{Some, None}
-use Rattle.std.specs.declared.result.Result.{Result}
 use Rattle.std.specs.declared.result.Result.the-variants.{Ok, Err}
 use Rattle.model.specs.declared.run.Stop.{Stop}
-use Rattle.model.specs.declared.answers.Closed.{Closed}
 use Rattle.model.specs.declared.answers.Closed.the-variants.{Kept}
-use Rattle.model.specs.declared.answers.CloseRefusal.{CloseRefusal}
 use Rattle.model.specs.declared.answers.CloseRefusal.the-variants.{Stopped}
 use Rattle.model.specs.Contents.{cut}
 use Rattle.model.specs.Order.{in-order}
-use Rattle.model.specs.World.{World, state, lines}
+use Rattle.model.specs.World.{World, lines}
 use Rattle.model.specs.Begin.{Ticket}
 use Rattle.model.specs.Step.{all-ended}
 use Rattle.model.specs.Close.{put-back, kept}
 use Rattle.model.specs.Past.{Found, found}
-use Rattle.model.specs.Promise.{Agrees, Kept-as-script-order, Put-back-as-found, Own-records-true, Pool-in-room, Honest}
+use Rattle.model.specs.Promise.{Agrees, Kept-as-script-order, Put-back-as-found, Own-records-true, Pool-in-room, Own-true}
 use Rattle.model.proofs.Order.{agrees}
 use Rattle.model.proofs.Changes.{Ending, nothing-done, stop-back, wish-back, early-back, all-kept, ending}
-use Rattle.model.proofs.Sound.{Sound, sound, all-below, honest-now}
+use Rattle.model.proofs.Sound.{Sound, sound, all-below, own-true-now}
 
 never : {A : Type 0} → _≡_ {A = ℕ} 0 1 → A
 never e = absurd (omega arith)
@@ -61,7 +58,7 @@ keeps-order w v b s k =
     let o = s .open-run (k .is-open) in
     let g = o .going (k .going) in
     let same = ap length (o .commands) in
-    rw (k .world) (agrees (b .commands) (b .files) (b .pool) (o .filed) (kept w) (g .acts) (g .bridge) (g .steps) (λ l lt. all-below (lines w) (w .entries) (k .all) l (omega arith)))
+    rw (k .world) (agrees (b .commands) (b .files) (b .pool) (o .filed) (kept w) (g .acts) (g .corresponds) (g .steps) (λ l lt. all-below (lines w) (w .entries) (k .all) l (omega arith)))
 
 pub kept-as-script-order : Kept-as-script-order
 kept-as-script-order w v p t wish d = keeps-order w v (found p) (sound p) (keeps-by t w v (ending t (Ok Kept) w v wish (d .does)))
@@ -88,9 +85,9 @@ put-back-as-found w v p wish a i d not-kept = by (ending None a w v wish (d .doe
 pub own-records-true : Own-records-true
 own-records-true w p = by (w .is-open) refl
   where
-    by : (b : Bool) → w .is-open ≡ b → Honest (w .pool) (w .records)
+    by : (b : Bool) → w .is-open ≡ b → Own-true (w .pool) (w .records)
     by false e = sound p .closed e
-    by true e = honest-now (found p) w (sound p .open-run e)
+    by true e = own-true-now (found p) w (sound p .open-run e)
 
 pub pool-in-room : Pool-in-room
 pool-in-room w p = (sound p .fine .places, sound p .fine .room)

@@ -14,6 +14,7 @@ use Rattle.model.specs.Contents.{Content, Pool, holds, content}
 use Rattle.model.specs.Hazards.{has-read, ended, write-write, read-write, speculative-write-read, earliest, hazard-or, hazard}
 use Rattle.model.specs.Promise.{Act, acts-of}
 use Rattle.model.proofs.Trace as Trace
+use Rattle.model.proofs.Bools.{or-false}
 use Rattle.model.proofs.Trace.{Event, rd, wr, Trace, line, mine, seen, hits, clash}
 use Rattle.model.proofs.Pools.{Grows, grows-holds}
 
@@ -110,17 +111,13 @@ abbrev pub clashes : Entry → List Entry → Bool
 clashes n [] = false
 clashes n (e ∷ es) = hit n e || clashes n es
 
-or-no : (b : Bool) → b ≡ (b || false)
-or-no true = refl
-or-no false = refl
-
 hits-hit : (p : Pool) (n e : Entry) → hits (event p n) (event p e) ≡ hit n e
 hits-hit p n e = by (n .wrote) (e .wrote)
   where
     by : (b c : Bool) → hits (event-by b (n .line) (n .file) (content p (n .number))) (event-by c (e .line) (e .file) (content p (e .number))) ≡
         ((b && (c && eqb (n .file) (e .file))) || ((b && (not c && eqb (n .file) (e .file))) || (not b && (c && (eqb (n .file) (e .file) && ltb (n .line) (e .line))))))
-    by true true = or-no _
-    by true false = or-no _
+    by true true = sym (or-false _)
+    by true false = sym (or-false _)
     by false true = refl
     by false false = refl
 
@@ -130,7 +127,7 @@ or-shift true false c = refl
 or-shift false b c = refl
 
 pub clash-trace : (p : Pool) (n : Entry) (t : Trace) (es : List Entry) → clash (event p n) (trace p t es) ≡ (clash (event p n) t || clashes n es)
-clash-trace p n t [] = or-no _
+clash-trace p n t [] = sym (or-false _)
 clash-trace p n t (e ∷ es) = clash-trace p n (event p e ∷ t) es ∙ rw (hits-hit p n e) (or-shift (hit n e) (clash (event p n) t) (clashes n es))
 
 not-first : (b : Bool) (e : Entry) (o : Option Entry) → cond b (Some e) o ≡ None → (b ≡ false) × (o ≡ None)

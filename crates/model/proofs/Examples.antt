@@ -2,26 +2,23 @@
 use mathlib.Core.Path.{_≡_, refl}
 use mathlib.Core.Bool.{Bool, true, false}
 use mathlib.Core.List.{List, [], _∷_}
-use Prim.Native.Nat.{ℕ, zero, suc, _+_, _≤_, _<_}
+use Prim.Native.Nat.{ℕ, _+_, _≤_, _<_}
 use native.Mathlib.Omega.{arith}
-use lib.ListN.{length, replicate}
+use lib.ListN.{replicate}
 use Rattle.std.proofs.shelf.Tests.{both-ways}
-use Rattle.std.specs.declared.option.Option.{Option}
 use Rattle.std.specs.declared.option.Option.the-variants.{Some, None}
-use Rattle.std.specs.declared.result.Result.the-variants.{Ok, Err}
+use Rattle.std.specs.declared.result.Result.the-variants.{Ok}
 use Rattle.model.specs.declared.command.Kind.the-variants.{Copy, Join, Gather}
 use Rattle.model.specs.declared.command.Command.{Command}
 use Rattle.model.specs.declared.run.Entry.{Entry}
 use Rattle.model.specs.declared.run.HazardKind.the-variants.{ReadWrite, SpeculativeWriteRead}
 use Rattle.model.specs.declared.run.Fault.the-variants.{NoRoom, Hazard, Absent, BadList}
 use Rattle.model.specs.declared.run.Stop.{Stop}
-use Rattle.model.specs.declared.run.LineState.the-variants.{Waiting, Reading, Writing, Ended}
+use Rattle.model.specs.declared.run.LineState.the-variants.{Waiting, Writing, Ended}
 use Rattle.model.specs.declared.record.Standing.the-variants.{Hint, Own, Struck}
 use Rattle.model.specs.declared.answers.Stepped.{Stepped}
-use Rattle.model.specs.declared.answers.Wish.the-variants.{Keep}
-use Rattle.model.specs.declared.answers.Closed.the-variants.{Kept}
 use Rattle.model.specs.Contents.{Pool}
-use Rattle.model.specs.Commands.{listed, agrees, sheets}
+use Rattle.model.specs.Commands.{listed, is-yes, sheets}
 use Rattle.model.specs.Acts.{goes, stops, stop-of, stop-at}
 use Rattle.model.specs.Order.{in-order}
 use Rattle.model.specs.Records.{Record}
@@ -32,9 +29,9 @@ use Rattle.model.specs.Load.{Traced}
 use Rattle.model.specs.Begin.{begun}
 use Rattle.model.specs.Step.{left, record-for, skipping, work, after-work}
 use Rattle.model.specs.Close.{put-back, kept}
-use Rattle.model.specs.Calls.{on-lay, on-load, on-audit, on-begin, on-step, on-close, Did}
+use Rattle.model.specs.Calls.{on-lay, on-load, on-audit, on-begin, on-step, Did}
 use Rattle.model.specs.Past.{Past, new, call, found, fronts}
-use Rattle.model.specs.Build.{Steps, no-step, a-step, Whole, Builds, twice}
+use Rattle.model.specs.Build.{no-step, a-step, Whole, Builds, twice}
 
 abbrev copies : ℕ → ℕ → Command
 copies a b = record { kind = Copy; a = a; b = b; c = 0; d = 0 }
@@ -56,7 +53,7 @@ lists : (listed [] ≡ Some []) × (listed (48 ∷ 50 ∷ 48 ∷ 51 ∷ []) ≡ 
 lists = (refl, refl, refl, refl)
 
 -- a choose reads its second file where the first begins with `y`, and its third where it is empty
-choices : (agrees (121 ∷ 101 ∷ []) ≡ true) × (agrees [] ≡ false)
+choices : (is-yes (121 ∷ 101 ∷ []) ≡ true) × (is-yes [] ≡ false)
 choices = (refl, refl)
 
 -- FILES: file 0 has `0203`, file 2 has `b`, file 3 has `c`

@@ -19,11 +19,11 @@ use Rattle.model.specs.Acts.{State}
 use Rattle.model.specs.Records.{Record}
 use Rattle.model.specs.Truth.{asks, follows, true-in}
 use Rattle.model.specs.Book.{same-command, in-script, own, use-of, reads-of, write-of, recorded, has-record, replace, evict, keep, keeps, hint}
-use Rattle.model.specs.Promise.{Honest}
+use Rattle.model.specs.Promise.{Own-true}
 use Rattle.model.proofs.Trace as Trace
 use Rattle.model.proofs.Trace.{Trace, Start, line, mine, seen, ends, wish, Steps}
 use Rattle.model.proofs.Entries.{event-by, event, trace, Numbered}
-use Rattle.model.proofs.Bridge.{start, Bridged}
+use Rattle.model.proofs.Correspond.{start, Corresponds}
 
 -- the acts of a line are what its command wants
 abbrev Told : (List Content → Want) → Trace → Type 0
@@ -38,20 +38,20 @@ told-mine w (a ∷ t) r l = by (eqb l (line a)) refl (told-mine w t (r .1) l)
     by true e ih = let same = eqb-true l (line a) e in (rw same (r .0 .wants), rw same (r .0 .still), ih)
     by false e ih = ih
 
-line-doing : (p : Pool) (e : Entry) → line (event p e) ≡ e .line
-line-doing p e = by (e .wrote)
+line-event : (p : Pool) (e : Entry) → line (event p e) ≡ e .line
+line-event p e = by (e .wrote)
   where
     by : (b : Bool) → line (event-by b (e .line) (e .file) (content p (e .number))) ≡ e .line
     by true = refl
     by false = refl
 
 module _ (p : Pool) (k : List Content → Want) (l : ℕ) where
-  pub mine-doing : (e : Entry) (t : Trace) → mine l (event p e ∷ t) ≡ cond (eqb l (e .line)) (event p e ∷ mine l t) (mine l t)
-  mine-doing e t = rw (line-doing p e)
+  pub mine-event : (e : Entry) (t : Trace) → mine l (event p e ∷ t) ≡ cond (eqb l (e .line)) (event p e ∷ mine l t) (mine l t)
+  mine-event e t = rw (line-event p e)
 
   told-less : (es : List Entry) (t : Trace) → Told k (mine l (trace p t es)) → Told k (mine l t)
   told-less [] t h = h
-  told-less (e ∷ es) t h = by (eqb l (e .line)) (rw (mine-doing e t) at (told-less es (event p e ∷ t) h))
+  told-less (e ∷ es) t h = by (eqb l (e .line)) (rw (mine-event e t) at (told-less es (event p e ∷ t) h))
     where
       by : (q : Bool) → Told k (cond q (event p e ∷ mine l t) (mine l t)) → Told k (mine l t)
       by true g = g .2
@@ -59,7 +59,7 @@ module _ (p : Pool) (k : List Content → Want) (l : ℕ) where
 
   -- the act of an entry of line l, after t
   told-here : (e : Entry) (es : List Entry) (t : Trace) → eqb l (e .line) ≡ true → Told k (mine l (trace p t (e ∷ es))) → (k (seen (mine l t)) ≡ wish (event p e)) × (ends (mine l t) ≡ false)
-  told-here e es t q h = let g : Told k (event p e ∷ mine l t) = rw (mine-doing e t, q) at (told-less es (event p e ∷ t) h) in (g .0, g .1)
+  told-here e es t q h = let g : Told k (event p e ∷ mine l t) = rw (mine-event e t, q) at (told-less es (event p e ∷ t) h) in (g .0, g .1)
 
   -- after its write a line does nothing
   reads-gone : (es : List Entry) (t : Trace) → ends (mine l t) ≡ true → Told k (mine l (trace p t es)) → reads-of l es ≡ []
@@ -69,7 +69,7 @@ module _ (p : Pool) (k : List Content → Want) (l : ℕ) where
       by : (q : Bool) → eqb l (e .line) ≡ q → (ends (mine l (event p e ∷ t)) ≡ true → Told k (mine l (trace p (event p e ∷ t) es)) → reads-of l es ≡ []) →
           cond q (cond (e .wrote) (reads-of l es) (use-of e ∷ reads-of l es)) (reads-of l es) ≡ []
       by true q ih = absurd (both-ways _ (told-here e es t q h .1) d)
-      by false q ih = ih (rw (mine-doing e t, q) d) h
+      by false q ih = ih (rw (mine-event e t, q) d) h
 
   kept-true : (es : List Entry) (t : Trace) → Numbered p es → Told k (mine l (trace p t es)) → ends (mine l t) ≡ false → ended l es ≡ true →
       follows p k (seen (mine l t)) (reads-of l es) (write-of l es) ≡ true
@@ -82,17 +82,17 @@ module _ (p : Pool) (k : List Content → Want) (l : ℕ) where
           ((q && b) || ended l es) ≡ true →
           follows p k (seen (mine l t)) (cond q (cond b (reads-of l es) (use-of e ∷ reads-of l es)) (reads-of l es)) (cond (q && b) (use-of e) (write-of l es)) ≡ true
       by true q true b ih g =
-          let gone = reads-gone es (event p e ∷ t) (rw (mine-doing e t, q, b)) h in
+          let gone = reads-gone es (event p e ∷ t) (rw (mine-event e t, q, b)) h in
           let asked = told-here e es t q h .0 in
           rw (gone, n .0, asked, b, eq-eqb (e .file) (e .file) refl, sameBytes-decides (content p (e .number)) (content p (e .number)) .1 refl)
       by true q false b ih g =
           let asked = told-here e es t q h .0 in
-          let more : seen (mine l (event p e ∷ t)) ≡ seen (mine l t) ++ content p (e .number) ∷ [] = rw (mine-doing e t, q, b) in
-          let open-still : ends (mine l (event p e ∷ t)) ≡ false = rw (mine-doing e t, q, b) o in
+          let more : seen (mine l (event p e ∷ t)) ≡ seen (mine l t) ++ content p (e .number) ∷ [] = rw (mine-event e t, q, b) in
+          let open-still : ends (mine l (event p e ∷ t)) ≡ false = rw (mine-event e t, q, b) o in
           let wants-it : asks (k (seen (mine l t))) (e .file) ≡ true = rw (asked, b) (eq-eqb (e .file) (e .file) refl) in
           and-from _ _ (n .0) (and-from _ _ wants-it (rw more at (ih open-still g)))
       by false q b bs ih g =
-          let same : mine l (event p e ∷ t) ≡ mine l t = rw (mine-doing e t, q) in
+          let same : mine l (event p e ∷ t) ≡ mine l t = rw (mine-event e t, q) in
           rw same at (ih (rw same o) g)
 
 follows-same : (p : Pool) (k j : List Content → Want) → ((ys : List Content) → k ys ≡ j ys) → (rs : List Use) (xs : List Content) (u : Use) → follows p k xs rs u ≡ follows p j xs rs u
@@ -102,53 +102,53 @@ follows-same p k j h (r ∷ rs) xs u = rw (h xs, follows-same p k j h rs (xs ++ 
 -- THE BOOK
 
 module _ (p : Pool) where
-  replace-honest : (q : Record) → true-in p q ≡ true → (rs : List Record) → Honest p rs → Honest p (replace q rs)
-  replace-honest q t [] h = tt
-  replace-honest q t (r ∷ rs) h = by (same-command (q .command) (r .command)) (replace-honest q t rs (h .1))
+  replace-own-true : (q : Record) → true-in p q ≡ true → (rs : List Record) → Own-true p rs → Own-true p (replace q rs)
+  replace-own-true q t [] h = tt
+  replace-own-true q t (r ∷ rs) h = by (same-command (q .command) (r .command)) (replace-own-true q t rs (h .1))
     where
-      by : (b : Bool) → Honest p (replace q rs) → Honest p (cond b (q ∷ rs) (r ∷ replace q rs))
+      by : (b : Bool) → Own-true p (replace q rs) → Own-true p (cond b (q ∷ rs) (r ∷ replace q rs))
       by true ih = (λ _. t, h .1)
       by false ih = (h .0, ih)
 
-  append-honest : (q : Record) → true-in p q ≡ true → (rs : List Record) → Honest p rs → Honest p (rs ++ q ∷ [])
-  append-honest q t [] h = (λ _. t, tt)
-  append-honest q t (r ∷ rs) h = (h .0, append-honest q t rs (h .1))
+  append-own-true : (q : Record) → true-in p q ≡ true → (rs : List Record) → Own-true p rs → Own-true p (rs ++ q ∷ [])
+  append-own-true q t [] h = (λ _. t, tt)
+  append-own-true q t (r ∷ rs) h = (h .0, append-own-true q t rs (h .1))
 
-  evict-honest : (cs : List Command) (q : Record) → true-in p q ≡ true → (rs : List Record) → Honest p rs → Honest p (evict cs q rs)
-  evict-honest cs q t [] h = tt
-  evict-honest cs q t (r ∷ rs) h = by (in-script (r .command) cs) (evict-honest cs q t rs (h .1))
+  evict-own-true : (cs : List Command) (q : Record) → true-in p q ≡ true → (rs : List Record) → Own-true p rs → Own-true p (evict cs q rs)
+  evict-own-true cs q t [] h = tt
+  evict-own-true cs q t (r ∷ rs) h = by (in-script (r .command) cs) (evict-own-true cs q t rs (h .1))
     where
-      by : (b : Bool) → Honest p (evict cs q rs) → Honest p (cond b (r ∷ evict cs q rs) (q ∷ rs))
+      by : (b : Bool) → Own-true p (evict cs q rs) → Own-true p (cond b (r ∷ evict cs q rs) (q ∷ rs))
       by true ih = (h .0, ih)
       by false ih = (λ _. t, h .1)
 
-  keep-honest : (cs : List Command) (places : ℕ) (q : Record) → true-in p q ≡ true → (rs : List Record) → Honest p rs → Honest p (keep cs places q rs)
-  keep-honest cs places q t rs h = by (has-record (q .command) rs) (ltb (length rs) places)
+  keep-own-true : (cs : List Command) (places : ℕ) (q : Record) → true-in p q ≡ true → (rs : List Record) → Own-true p rs → Own-true p (keep cs places q rs)
+  keep-own-true cs places q t rs h = by (has-record (q .command) rs) (ltb (length rs) places)
     where
-      by : (b c : Bool) → Honest p (cond b (replace q rs) (cond c (rs ++ q ∷ []) (evict cs q rs)))
-      by true c = replace-honest q t rs h
-      by false true = append-honest q t rs h
-      by false false = evict-honest cs q t rs h
+      by : (b c : Bool) → Own-true p (cond b (replace q rs) (cond c (rs ++ q ∷ []) (evict cs q rs)))
+      by true c = replace-own-true q t rs h
+      by false true = append-own-true q t rs h
+      by false false = evict-own-true cs q t rs h
 
   abbrev Truths : List Entry → ℕ → List Command → Type 0
   Truths es l [] = Unit {0}
   Truths es l (c ∷ left) = (true-in p (recorded l c es) ≡ true) × Truths es (suc l) left
 
-  keeps-honest : (cs : List Command) (places : ℕ) (es : List Entry) (l : ℕ) (left : List Command) (rs : List Record) → Truths es l left → Honest p rs → Honest p (keeps cs places es l left rs)
-  keeps-honest cs places es l [] rs t h = h
-  keeps-honest cs places es l (c ∷ left) rs t h = keeps-honest cs places es (suc l) left (keep cs places (recorded l c es) rs) (t .1) (keep-honest cs places (recorded l c es) (t .0) rs h)
+  keeps-own-true : (cs : List Command) (places : ℕ) (es : List Entry) (l : ℕ) (left : List Command) (rs : List Record) → Truths es l left → Own-true p rs → Own-true p (keeps cs places es l left rs)
+  keeps-own-true cs places es l [] rs t h = h
+  keeps-own-true cs places es l (c ∷ left) rs t h = keeps-own-true cs places es (suc l) left (keep cs places (recorded l c es) rs) (t .1) (keep-own-true cs places (recorded l c es) (t .0) rs h)
 
   -- a hint is not own
-  pub hint-honest : (q : Record) → q .standing ≡ Hint → (rs : List Record) → Honest p rs → Honest p (hint q rs)
-  hint-honest q e [] h = (λ o. absurd (let z : Hint ≡ Own = sym e ∙ o in let y : _≡_ {A = ℕ} 0 1 = cc in omega arith), tt)
-  hint-honest q e (r ∷ rs) h = by (same-command (q .command) (r .command)) (own (r .standing)) (hint-honest q e rs (h .1))
+  pub hint-own-true : (q : Record) → q .standing ≡ Hint → (rs : List Record) → Own-true p rs → Own-true p (hint q rs)
+  hint-own-true q e [] h = (λ o. absurd (let z : Hint ≡ Own = sym e ∙ o in let y : _≡_ {A = ℕ} 0 1 = cc in omega arith), tt)
+  hint-own-true q e (r ∷ rs) h = by (same-command (q .command) (r .command)) (own (r .standing)) (hint-own-true q e rs (h .1))
     where
-      by : (b c : Bool) → Honest p (hint q rs) → Honest p (cond b (cond c (r ∷ rs) (q ∷ rs)) (r ∷ hint q rs))
+      by : (b c : Bool) → Own-true p (hint q rs) → Own-true p (cond b (cond c (r ∷ rs) (q ∷ rs)) (r ∷ hint q rs))
       by true true ih = h
       by true false ih = (λ o. absurd (let z : Hint ≡ Own = sym e ∙ o in let y : _≡_ {A = ℕ} 0 1 = cc in omega arith), h .1)
       by false c ih = (h .0, ih)
 
-module _ (cs : List Command) (fs : List ℕ) (p₀ : Pool) (s : State) (t : Trace) (b : Bridged (start cs fs p₀) s t) (r : Steps (start cs fs p₀) t) where
+module _ (cs : List Command) (fs : List ℕ) (p₀ : Pool) (s : State) (t : Trace) (b : Corresponds (start cs fs p₀) s t) (r : Steps (start cs fs p₀) t) where
   line-true : (l : ℕ) → ended l (s .entries) ≡ true → follows (s .pool) (wants cs l) [] (reads-of l (s .entries)) (write-of l (s .entries)) ≡ true
   line-true l d = kept-true (s .pool) (wants cs l) l (s .entries) [] (b .numbered) (rw (b .traced) (told-mine (start cs fs p₀) t r l)) refl d
 
@@ -161,7 +161,7 @@ module _ (cs : List Command) (fs : List ℕ) (p₀ : Pool) (s : State) (t : Trac
         truths (suc l) left (λ i ys. rw (one i) (h (suc i) ys)) (λ i lt. rw (one i) (d (suc i) (omega arith))),
       )
 
-  pub kept-honest : (places : ℕ) (rs : List Record) → ((l : ℕ) → l < length cs → ended l (s .entries) ≡ true) → Honest (s .pool) rs → Honest (s .pool) (keeps cs places (s .entries) 0 cs rs)
-  kept-honest places rs d h =
+  pub kept-own-true : (places : ℕ) (rs : List Record) → ((l : ℕ) → l < length cs → ended l (s .entries) ≡ true) → Own-true (s .pool) rs → Own-true (s .pool) (keeps cs places (s .entries) 0 cs rs)
+  kept-own-true places rs d h =
       let none : (i : ℕ) → 0 + i ≡ i = λ i. omega arith in
-      keeps-honest (s .pool) cs places (s .entries) 0 cs rs (truths 0 cs (λ i ys. rw (none i)) (λ i lt. rw (none i) (d i lt))) h
+      keeps-own-true (s .pool) cs places (s .entries) 0 cs rs (truths 0 cs (λ i ys. rw (none i)) (λ i lt. rw (none i) (d i lt))) h

@@ -1,13 +1,13 @@
 -- What a working step that goes on does to the entries: those of other lines stay, and its own line comes nearer to its end.
 use mathlib.Core.Path.{_≡_, refl, sym, ap, subst, _∙_}
-use mathlib.Core.Bool.{Bool, true, false, cond, _||_}
+use mathlib.Core.Bool.{Bool, true, false, cond}
 use mathlib.Core.List.{List, [], _∷_, _++_}
 use mathlib.Core.Logic.{_⊎_, inl, inr, ⊎-elim}
 use Prim.Native.Nat.{ℕ, zero, suc, _<_}
 use native.Mathlib.Omega.{arith}
 use lib.Dec.{eqb}
 use lib.ListN.{length}
-use Rattle.std.proofs.shelf.Tests.{cases-bool, both-ways, and-from, eq-eqb, ne-eqb, lt-ltb, not-from-false}
+use Rattle.std.proofs.shelf.Tests.{cases-bool, both-ways, and-from, eq-eqb, ne-eqb, lt-ltb, not-from-false, or-right}
 use Rattle.std.specs.declared.option.Option.{Option}
 use Rattle.std.specs.declared.option.Option.the-variants.{Some, None}
 use Rattle.model.specs.declared.command.Command.{Command}
@@ -23,7 +23,8 @@ use Rattle.model.specs.Policies.{Front}
 use Rattle.model.specs.World.{World, state}
 use Rattle.model.specs.Step.{skip, entry, left, all-ended, record-for, work-by, work}
 use Rattle.model.proofs.Script.{Read-act, Write-act, was, nearer, ended-more}
-use Rattle.model.proofs.Bridge.{not-goes, goes-is}
+use Rattle.model.proofs.Bools.{or-false}
+use Rattle.model.proofs.Correspond.{not-goes, goes-is}
 use Rattle.model.proofs.Sound.{left-parts}
 
 count-reads : (p : Pool) (l : ℕ) (es : List Entry) → length (has-read p l es) ≡ length (reads-of l es)
@@ -41,11 +42,7 @@ reads-other m [] e h = rw h
 reads-other m (d ∷ es) e h = rw (reads-other m es e h)
 
 ended-other : (m : ℕ) (es : List Entry) (e : Entry) → eqb m (e .line) ≡ false → ended m (es ++ e ∷ []) ≡ ended m es
-ended-other m es e h = ended-more m es (e ∷ []) ∙ rw h (by (ended m es))
-  where
-    by : (b : Bool) → (b || false) ≡ b
-    by true = refl
-    by false = refl
+ended-other m es e h = ended-more m es (e ∷ []) ∙ rw h (or-false (ended m es))
 
 -- what a working step that goes on does to the entries
 pub record Moved (l : ℕ) (es ds : List Entry) : Type 0 where
@@ -68,19 +65,15 @@ act-moved cs l s r e = record {
 }
 
 -- a skip that goes on ends its line
-abbrev Ends : ℕ → List Entry → List Entry → Type 0
+abbrev pub Ends : ℕ → List Entry → List Entry → Type 0
 Ends l es ds = ((m : ℕ) → (m ≡ l → ⊥) → (reads-of m ds ≡ reads-of m es) × (ended m ds ≡ ended m es)) × (ended l ds ≡ true)
 
-skip-ends : (l : ℕ) (rs : List Use) (u : Use) (s r : State) → skip l rs u s ≡ goes r → Ends l (s .entries) (r .entries)
+pub skip-ends : (l : ℕ) (rs : List Use) (u : Use) (s r : State) → skip l rs u s ≡ goes r → Ends l (s .entries) (r .entries)
 skip-ends l [] u s r e = by (hazard (entry l true u) (s .entries)) e
   where
-    or-true : (b : Bool) → (b || true) ≡ true
-    or-true true = refl
-    or-true false = refl
-
     by : (m : Option Hazard) → tested l (written (entry l true u) (s .pool) s) m (goes (written (entry l true u) (s .pool) s)) ≡ goes r → Ends l (s .entries) (r .entries)
     by (Some h) k = not-goes k
-    by None k = subst (λ x. Ends l (s .entries) (x .entries)) (goes-is k) (others-one l (s .entries) (entry l true u) refl, ended-more l (s .entries) (entry l true u ∷ []) ∙ rw (eq-eqb l l refl) (or-true (ended l (s .entries))))
+    by None k = subst (λ x. Ends l (s .entries) (x .entries)) (goes-is k) (others-one l (s .entries) (entry l true u) refl, ended-more l (s .entries) (entry l true u ∷ []) ∙ rw (eq-eqb l l refl) (or-right _ true refl))
 skip-ends l (q ∷ rs) u s r e = by (hazard (entry l false q) (s .entries)) e (skip-ends l rs u (noted (entry l false q) s) r)
   where
     by : (m : Option Hazard) → tested l (noted (entry l false q) s) m (skip l rs u (noted (entry l false q) s)) ≡ goes r → (skip l rs u (noted (entry l false q) s) ≡ goes r → Ends l (s .entries ++ entry l false q ∷ []) (r .entries)) → Ends l (s .entries) (r .entries)

@@ -1,137 +1,201 @@
--- The log has room for all that a step notes.
-use mathlib.Core.Path.{_≡_, refl, sym, ap, _∙_}
-use mathlib.Core.Bool.{Bool, true, false, cond, not}
-use mathlib.Core.List.{List, [], _∷_}
+-- The log of an open run has room for all that its lines have left, since no line makes more than 17 acts.
+use mathlib.Core.Path.{_≡_, refl, sym, ap, subst, _∙_}
+use mathlib.Core.Bool.{Bool, true, false, cond, not, _&&_, _||_}
+use mathlib.Core.List.{List, [], _∷_, _++_}
 use mathlib.Core.Logic.{⊎-elim}
 use Prim.Native.Nat.{ℕ, zero, suc, _+_, _*_, _≤_, _<_}
 use native.Mathlib.Omega.{arith}
-use lib.Dec.{eqb}
+use lib.Dec.{eqb, leb}
 use lib.ListN.{length}
-use Rattle.std.proofs.shelf.Lists.{length-append}
-use Rattle.std.proofs.shelf.Tests.{eqb-true, eq-eqb, cases-lt, both-ways, and-parts, not-true}
+use Rattle.std.proofs.shelf.Tests.{cases-eq, cases-lt, both-ways, eq-eqb, ne-eqb, and-parts, not-true, or-right}
+use Rattle.std.specs.declared.option.Option.{Option}
+use Rattle.std.specs.declared.option.Option.the-variants.{Some, None}
 use Rattle.model.specs.declared.command.Command.{Command}
 use Rattle.model.specs.declared.run.Entry.{Entry}
-use Rattle.model.specs.Contents.{Pool}
-use Rattle.model.specs.Commands.{reads, wants}
-use Rattle.model.specs.Hazards.{ended, fresh}
-use Rattle.model.specs.World.{state, lines}
-use Rattle.model.specs.Past.{found}
-use Rattle.model.specs.Promise.{Log-has-room}
-use Rattle.model.proofs.Trace as Trace
-use Rattle.model.proofs.Trace.{Event, rd, wr, Trace, Start, line, mine, seen, ends, Ok, Steps}
-use Rattle.model.proofs.Swap.{mine-other}
-use Rattle.model.proofs.Sort.{Below}
-use Rattle.model.proofs.Entries.{event, trace}
-use Rattle.model.proofs.Keep.{mine-doing}
+use Rattle.model.specs.declared.run.Hazard.{Hazard}
+use Rattle.model.specs.declared.run.Fault.the-variants.{TooLong}
+use Rattle.model.specs.Contents.{Pool, content, given, put}
+use Rattle.model.specs.Commands.{Want, reads, writes, bad, wants}
+use Rattle.model.specs.Hazards.{fresh, ended, has-read, hazard}
+use Rattle.model.specs.Acts.{State, goes, stops, reached, stop-at, tested, noted, written, writing, attempt, act}
+use Rattle.model.specs.Records.{Use, Record}
+use Rattle.model.specs.World.{World, state, lines}
+use Rattle.model.specs.Step.{entry, skip, left, record-for, work-by, work}
+use Rattle.model.specs.Past.{Past, found}
+use Rattle.model.specs.Laws.{acts-made, Room, Room-is-left, Room-is-kept, Log-has-room}
 use Rattle.model.proofs.Brief.{brief}
-use Rattle.model.proofs.Bridge.{start, ended-is}
-use Rattle.model.proofs.Skip.{skips-at-is, skips-few}
-use Rattle.model.proofs.Order.{inside}
-use Rattle.model.proofs.Sound.{sound, left-parts, honest-now}
+use Rattle.model.proofs.Script.{ended-more}
+use Rattle.model.proofs.Skip.{skips-fresh, skips-at-is, skips-few}
+use Rattle.model.proofs.Changes.{open-law}
+use Rattle.model.proofs.Sound.{sound, ready, left-parts, own-true-now}
+use Rattle.model.proofs.Adds.{Of, Adds, work-adds, act-adds, skip-adds, adds-other}
 
-seen-length : (m : Trace) → ends m ≡ false → length (seen m) ≡ length m
-seen-length [] e = refl
-seen-length (rd l f x ∷ m) e = rw (length-append (seen m) (x ∷ [])) (let h = seen-length m e in omega arith)
-seen-length (wr l f x ∷ m) e = absurd (both-ways true e refl)
+-- COUNTING ENTRIES
 
-ended-less : (l : ℕ) (a : Event) (t : Trace) → Trace.ended l (a ∷ t) ≡ false → Trace.ended l t ≡ false
-ended-less l a t = by (eqb l (line a)) a
+made-more : (l : ℕ) (es ds : List Entry) → acts-made l (es ++ ds) ≡ acts-made l es + acts-made l ds
+made-more l [] ds = omega arith
+made-more l (e ∷ es) ds = let h = made-more l es ds in omega arith
+
+made-of : (l : ℕ) (es : List Entry) → Of l es → acts-made l es ≡ length es
+made-of l [] h = refl
+made-of l (e ∷ es) h = rw (eq-eqb l (e .line) (sym (h .0)), made-of l es (h .1)) (omega arith)
+
+made-other : (l m : ℕ) → (m ≡ l → ⊥) → (es : List Entry) → Of l es → acts-made m es ≡ 0
+made-other l m ne [] h = refl
+made-other l m ne (e ∷ es) h = rw (ne-eqb m (e .line) (λ i. ne (i ∙ h .0)), made-other l m ne es (h .1)) (omega arith)
+
+adds-made : (n l : ℕ) (es ds : List Entry) → Adds n l es ds → acts-made l ds ≤ acts-made l es + n
+adds-made n l es ds a = rw (a .is, made-more l es (a .new), made-of l (a .new) (a .of)) (omega (arith, a .few))
+
+adds-made-other : (n l : ℕ) (es ds : List Entry) → Adds n l es ds → (m : ℕ) → (m ≡ l → ⊥) → acts-made m ds ≡ acts-made m es
+adds-made-other n l es ds a m ne = rw (a .is, made-more m es (a .new), made-other l m ne (a .new) (a .of)) (omega arith)
+
+made-fresh : (l : ℕ) (es : List Entry) → fresh l es ≡ true → acts-made l es ≡ 0
+made-fresh l [] h = refl
+made-fresh l (e ∷ es) h = let b = and-parts (not (eqb l (e .line))) (fresh l es) h in rw (not-true _ (b .0), made-fresh l es (b .1)) (omega arith)
+
+-- a line that has not ended has only read
+made-read : (p : Pool) (l : ℕ) (es : List Entry) → ended l es ≡ false → acts-made l es ≡ length (has-read p l es)
+made-read p l [] h = refl
+made-read p l (e ∷ es) h = by (eqb l (e .line)) (e .wrote) h (made-read p l es)
   where
-    by : (p : Bool) (b : Event) → ends (cond p (b ∷ mine l t) (mine l t)) ≡ false → Trace.ended l t ≡ false
-    by true (rd k f x) e = e
-    by true (wr k f x) e = absurd (both-ways true e refl)
-    by false b e = e
-
-module _ (cs : List Command) (fs : List ℕ) (p : Pool) where
-  abbrev w : Start
-  w = start cs fs p
-
-  -- a line that has not ended made at most 16 acts, any line 17
-  short : (t : Trace) → Steps w t → (l : ℕ) → Trace.ended l t ≡ false → length (mine l t) ≤ 16
-  short [] r l e = omega arith
-  short (a ∷ t) r l e = by (eqb l (line a)) refl a refl (r .0) (short t (r .1) l (ended-less l a t e)) e
-    where
-      by : (q : Bool) → eqb l (line a) ≡ q → (b : Event) → a ≡ b → Ok w t b → length (mine l t) ≤ 16 → ends (cond q (b ∷ mine l t) (mine l t)) ≡ false → length (cond q (b ∷ mine l t) (mine l t)) ≤ 16
-      by false d b s o ih k = ih
-      by true d (wr m f x) s o ih k = absurd (both-ways true k refl)
-      by true d (rd m f x) s o ih k =
-          let same : l ≡ m = eqb-true _ _ d ∙ ap line s in
-          let few : length (seen (mine l t)) < 16 = rw same (brief cs m f _ (o .wants)) in
-          omega (arith, few, seen-length (mine l t) k)
-
-  most : (t : Trace) → Steps w t → (l : ℕ) → length (mine l t) ≤ 17
-  most [] r l = omega arith
-  most (a ∷ t) r l = by (eqb l (line a)) refl (most t (r .1) l)
-    where
-      by : (q : Bool) → eqb l (line a) ≡ q → length (mine l t) ≤ 17 → length (cond q (a ∷ mine l t) (mine l t)) ≤ 17
-      by true e ih = let same = eqb-true l (line a) e in let few = short t (r .1) l (rw same (r .0 .still)) in omega arith
-      by false e ih = ih
+    by : (b c : Bool) → ((b && c) || ended l es) ≡ false → (ended l es ≡ false → acts-made l es ≡ length (has-read p l es)) →
+        cond b 1 0 + acts-made l es ≡ length (cond b (cond c (has-read p l es) (content p (e .number) ∷ has-read p l es)) (has-read p l es))
+    by true true h ih = absurd (both-ways true h refl)
+    by true false h ih = let k = ih h in omega arith
+    by false c h ih = let k = ih h in omega arith
 
 -- the acts of the first n lines
-abbrev total : ℕ → Trace → ℕ
-total zero t = 0
-total (suc n) t = length (mine n t) + total n t
-
-total-other : (n : ℕ) (a : Event) (t : Trace) → n ≤ line a → total n (a ∷ t) ≡ total n t
-total-other zero a t h = refl
-total-other (suc n) a t h = rw (mine-other n a t (λ e. omega arith), total-other n a t (omega arith))
-
-total-own : (n : ℕ) (a : Event) (t : Trace) → line a < n → total n (a ∷ t) ≡ suc (total n t)
-total-own zero a t h = absurd (omega arith)
-total-own (suc n) a t h = ⊎-elim
-    (λ (lt : line a < n). rw (mine-other n a t (λ e. omega arith), total-own n a t lt) (omega arith))
-    (λ (le : n ≤ line a). let same : n ≡ line a = omega arith in rw (eq-eqb n (line a) same, total-other n a t le) (omega arith))
-    (cases-lt (line a) n)
+abbrev total : ℕ → List Entry → ℕ
+total zero es = 0
+total (suc n) es = acts-made n es + total n es
 
 total-none : (n : ℕ) → total n [] ≡ 0
 total-none zero = refl
-total-none (suc n) = rw (total-none n)
+total-none (suc n) = let h = total-none n in omega arith
 
-total-all : (n : ℕ) (t : Trace) → Below n t → total n t ≡ length t
-total-all n [] b = total-none n
-total-all n (a ∷ t) b = total-own n a t (b .0) ∙ ap suc (total-all n t (b .1))
+total-above : (n : ℕ) (e : Entry) (es : List Entry) → n ≤ e .line → total n (e ∷ es) ≡ total n es
+total-above zero e es h = refl
+total-above (suc n) e es h = rw (ne-eqb n (e .line) (λ i. omega arith), total-above n e es (omega arith)) (omega arith)
 
-total-most : (n : ℕ) (t : Trace) → ((l : ℕ) → length (mine l t) ≤ 17) → total n t ≤ 17 * n
-total-most zero t h = omega arith
-total-most (suc n) t h = omega (arith, h n, total-most n t h)
+total-below : (n : ℕ) (e : Entry) (es : List Entry) → e .line < n → total n (e ∷ es) ≡ suc (total n es)
+total-below zero e es h = absurd (omega arith)
+total-below (suc n) e es h = ⊎-elim
+    (λ (lt : e .line < n). rw (ne-eqb n (e .line) (λ i. omega arith), total-below n e es lt) (omega arith))
+    (λ (le : n ≤ e .line). let same : n ≡ e .line = omega arith in rw (eq-eqb n (e .line) same, total-above n e es le) (omega arith))
+    (cases-lt (e .line) n)
 
--- where line l has j acts left, so have they all
-total-room : (n l j : ℕ) (t : Trace) → ((l : ℕ) → length (mine l t) ≤ 17) → l < n → length (mine l t) + j ≤ 17 → total n t + j ≤ 17 * n
-total-room zero l j t h lt r = absurd (omega arith)
-total-room (suc n) l j t h lt r = ⊎-elim
-    (λ (k : l < n). omega (arith, h n, total-room n l j t h k r))
-    (λ (k : n ≤ l). let same : l ≡ n = omega arith in let r′ : length (mine n t) + j ≤ 17 = rw same at r in omega (arith, r′, total-most n t h))
+total-all : (n : ℕ) (es : List Entry) → ((l : ℕ) → n ≤ l → acts-made l es ≡ 0) → total n es ≡ length es
+total-all n [] h = total-none n
+total-all n (e ∷ es) h =
+    let here : e .line < n = ⊎-elim (λ lt. lt) (λ (le : n ≤ e .line). let k : 1 + acts-made (e .line) es ≡ 0 = rw (eq-eqb (e .line) (e .line) refl) at (h (e .line) le) in absurd (omega arith)) (cases-lt (e .line) n) in
+    total-below n e es here ∙ ap suc (total-all n es (λ l le. let k = h l le in omega arith))
+
+total-most : (n : ℕ) (es : List Entry) → ((l : ℕ) → acts-made l es ≤ 17) → total n es ≤ 17 * n
+total-most zero es h = omega arith
+total-most (suc n) es h = omega (arith, h n, total-most n es h)
+
+total-room : (n l : ℕ) (es : List Entry) → ((l : ℕ) → acts-made l es ≤ 17) → l < n → total n es + 17 ≤ 17 * n + acts-made l es
+total-room zero l es h lt = absurd (omega arith)
+total-room (suc n) l es h lt = ⊎-elim
+    (λ (k : l < n). omega (arith, h n, total-room n l es h k))
+    (λ (k : n ≤ l). let same : l ≡ n = omega arith in rw same (omega (arith, total-most n es h)))
     (cases-lt l n)
 
-trace-length : (p : Pool) (t : Trace) (es : List Entry) → length (trace p t es) ≡ length t + length es
-trace-length p t [] = omega arith
-trace-length p t (e ∷ es) = let h = trace-length p (event p e ∷ t) es in omega arith
+pub room-is-left : Room-is-left
+room-is-left n places es r l lt = omega (arith, total-room n l es (r .few) lt, total-all n es (r .inside), r .enough)
 
-mine-fresh : (p : Pool) (l : ℕ) (t : Trace) (es : List Entry) → fresh l es ≡ true → mine l (trace p t es) ≡ mine l t
-mine-fresh p l t [] h = refl
-mine-fresh p l t (e ∷ es) h =
-    let b = and-parts (not (eqb l (e .line))) (fresh l es) h in
-    mine-fresh p l (event p e ∷ t) es (b .1) ∙ mine-doing p (wants [] l) l e t ∙ rw (not-true _ (b .0))
+-- ONE STEP: its line has ended, or made at most 16 acts
+
+abbrev Fewer : ℕ → List Entry → Type 0
+Fewer l ds = ended l ds ≡ false → acts-made l ds ≤ 16
+
+wrote-ended : (l : ℕ) (es : List Entry) (e : Entry) → e .line ≡ l → e .wrote ≡ true → ended l (es ++ e ∷ []) ≡ true
+wrote-ended l es e h w = ended-more l es (e ∷ []) ∙ rw (eq-eqb l (e .line) (sym h), w) (or-right _ true refl)
+
+module _ (cs : List Command) (l : ℕ) (s : State) (still : ended l (s .entries) ≡ false) (few : acts-made l (s .entries) ≤ 16) where
+  write-fewer : (f : ℕ) (p : Pool) (n : ℕ) → Fewer l (reached (writing l s f p n) .entries)
+  write-fewer f p zero h = few
+  write-fewer f p (suc n) h = by (hazard e (s .entries)) h
+    where
+      e : Entry
+      e = record { line = l; wrote = true; file = f; number = suc n }
+
+      by : (m : Option Hazard) → ended l (reached (tested l (written e p s) m (goes (written e p s))) .entries) ≡ false → acts-made l (reached (tested l (written e p s) m (goes (written e p s))) .entries) ≤ 16
+      by (Some x) h = absurd (both-ways _ h (wrote-ended l (s .entries) e refl refl))
+      by None h = absurd (both-ways _ h (wrote-ended l (s .entries) e refl refl))
+
+  attempt-fewer : (q : Want) → wants cs l (has-read (s .pool) l (s .entries)) ≡ q → Fewer l (reached (attempt (wants cs l) l s (has-read (s .pool) l (s .entries)) q) .entries)
+  attempt-fewer bad d h = few
+  attempt-fewer (writes f x) d h = by (leb (length x) 4096) h
+    where
+      by : (c : Bool) → Fewer l (reached (cond c (writing l s f (put (s .pool) x) (given (s .pool) x)) (stops s (stop-at l TooLong))) .entries)
+      by true h = write-fewer f (put (s .pool) x) (given (s .pool) x) h
+      by false h = few
+  attempt-fewer (reads f) d h =
+      let less = brief cs l f (has-read (s .pool) l (s .entries)) d in
+      let now = adds-made 1 l (s .entries) _ (act-adds l s (wants cs l)) in
+      omega (arith, less, made-read (s .pool) l (s .entries) still, subst (λ q. acts-made l (reached (attempt (wants cs l) l s (has-read (s .pool) l (s .entries)) q) .entries) ≤ acts-made l (s .entries) + 1) d now)
+
+  act-fewer : Fewer l (reached (act (wants cs l) l s) .entries)
+  act-fewer = attempt-fewer (wants cs l (has-read (s .pool) l (s .entries))) refl
+
+skip-fewer : (l n : ℕ) (rs : List Use) (u : Use) (s : State) → acts-made l (s .entries) + length rs ≤ n → n ≤ 16 → Fewer l (reached (skip l rs u s) .entries)
+skip-fewer l n [] u s le few h = by (hazard (entry l true u) (s .entries)) h
+  where
+    by : (m : Option Hazard) → Fewer l (reached (tested l (written (entry l true u) (s .pool) s) m (goes (written (entry l true u) (s .pool) s))) .entries)
+    by (Some x) h = absurd (both-ways _ h (wrote-ended l (s .entries) (entry l true u) refl refl))
+    by None h = absurd (both-ways _ h (wrote-ended l (s .entries) (entry l true u) refl refl))
+skip-fewer l n (r ∷ rs) u s le few h = by (hazard (entry l false r) (s .entries)) (skip-fewer l n rs u (noted (entry l false r) s) (omega (arith, one)) few) h
+  where
+    one : acts-made l (s .entries ++ entry l false r ∷ []) ≡ acts-made l (s .entries) + 1
+    one = made-more l (s .entries) (entry l false r ∷ []) ∙ rw (eq-eqb l l refl) (omega arith)
+
+    by : (m : Option Hazard) → Fewer l (reached (skip l rs u (noted (entry l false r) s)) .entries) → Fewer l (reached (tested l (noted (entry l false r) s) m (skip l rs u (noted (entry l false r) s))) .entries)
+    by (Some x) ih h = omega (arith, one)
+    by None ih h = ih h
+
+module _ (w : World) (r : Room (lines w) (w .log-places) (w .entries)) (l : ℕ) (m : left (lines w) (w .entries) l ≡ true) (brief-records : (q : Record) → record-for w l ≡ Some q → length (q .reads) ≤ 16) where
+  still : ended l (w .entries) ≡ false
+  still = left-parts (lines w) (w .entries) l m .1
+
+  -- by the record, or by one act
+  own : (acts-made l (reached (work w l) .entries) ≤ 17) × Fewer l (reached (work w l) .entries)
+  own = by (record-for w l) refl
+    where
+      by : (q : Option Record) → record-for w l ≡ q → (acts-made l (reached (work-by q (w .notes .commands) l (state w)) .entries) ≤ 17) × Fewer l (reached (work-by q (w .notes .commands) l (state w)) .entries)
+      by None e = (omega (arith, r .fewer l still, adds-made 1 l (w .entries) _ (act-adds l (state w) (wants (w .notes .commands) l))), act-fewer (w .notes .commands) l (state w) still (r .fewer l still))
+      by (Some q) e =
+          let none = made-fresh l (w .entries) (skips-fresh (w .records) l (state w) q (w .notes .commands) l e) in
+          let short = brief-records q e in
+          (omega (arith, none, short, adds-made _ l (w .entries) _ (skip-adds l (q .reads) (q .write) (state w))), skip-fewer l 16 (q .reads) (q .write) (state w) (omega (arith, none, short)) (omega arith))
+
+  others : (i : ℕ) → (i ≡ l → ⊥) → acts-made i (reached (work w l) .entries) ≡ acts-made i (w .entries)
+  others = adds-made-other _ l (w .entries) _ (work-adds w l)
+
+  kept-room : Room (lines w) (w .log-places) (reached (work w l) .entries)
+  kept-room = record {
+    enough = r .enough;
+    inside = λ i le. others i (λ e. let lt = left-parts (lines w) (w .entries) l m .0 in omega arith) ∙ r .inside i le;
+    few = λ i. ⊎-elim (λ (e : i ≡ l). rw e (own .0)) (λ ne. omega (arith, others i ne, r .few i)) (cases-eq i l);
+    fewer = λ i h. ⊎-elim (λ (e : i ≡ l). rw e (own .1 (rw e at h))) (λ ne. omega (arith, others i ne, r .fewer i (sym (adds-other _ l (w .entries) _ (work-adds w l) i ne .1) ∙ h))) (cases-eq i l);
+  }
+
+pub room-is-kept : Room-is-kept
+room-is-kept w r l m short = kept-room w r l m short
+
+-- OVER EVERY PAST
+
+-- a true record has at most 16 reads
+records-brief : {w : World} (p : Past w) → w .is-open ≡ true → (l : ℕ) (q : Record) → record-for w l ≡ Some q → length (q .reads) ≤ 16
+records-brief {w} p i l q e =
+    let o = sound p .open-run i in
+    skips-few (w .notes .commands) l (state w) q (w .pool) (skips-at-is (w .pool) (w .records) (own-true-now (found p) w o) l (state w) q (w .notes .commands) l e)
+
+room : {w : World} → Past w → w .is-open ≡ true → Room (lines w) (w .log-places) (w .entries)
+room = open-law (λ w. Room (lines w) (w .log-places) (w .entries))
+    (λ w cs e few. record { enough = ready cs w e .log-room; inside = λ l le. refl; few = λ l. omega arith; fewer = λ l h. omega arith })
+    (λ w p v t a st d h. rw (d .world) (kept-room w h (st .line) (d .answer .member (d .leads)) (records-brief p (d .is-open) (st .line))))
 
 pub log-has-room : Log-has-room
-log-has-room w p i going l m =
-    let b = found p in
-    let o = sound p .open-run i in
-    let g = o .going going in
-    let t = g .acts in
-    let parts = left-parts (lines w) (w .entries) l m in
-    let lt : l < length (b .commands) = rw (o .commands) at (parts .0) in
-    let still : Trace.ended l t ≡ false = ended-is (b .commands) (b .files) (b .pool) (state w) t (g .bridge) l ∙ parts .1 in
-    let few = short (b .commands) (b .files) (b .pool) t (g .steps) l still in
-    let all = most (b .commands) (b .files) (b .pool) t (g .steps) in
-    let long : length t ≡ length (w .entries) = ap length (sym (g .bridge .traced)) ∙ trace-length (w .pool) [] (w .entries) ∙ (omega arith) in
-    let sum = total-all (length (b .commands)) t (inside (start (b .commands) (b .files) (b .pool)) t (g .steps)) in
-    let one = total-room (length (b .commands)) l 1 t all lt (omega arith) in (
-      omega (arith, one, sum, long, o .log-room),
-      λ q e.
-          let s = skips-at-is (w .pool) (w .records) (honest-now b w o) l (state w) q (w .notes .commands) l e in
-          let n = skips-few (w .notes .commands) l (state w) q (w .pool) s in
-          let none : mine l t ≡ [] = ap (mine l) (sym (g .bridge .traced)) ∙ mine-fresh (w .pool) l [] (w .entries) (s .first) in
-          let free = total-room (length (b .commands)) l (length (q .reads) + 1) t all lt (omega (arith, ap length none, n)) in
-          omega (arith, free, sum, long, o .log-room),
-    )
+log-has-room w p i = room p i

@@ -8,7 +8,7 @@ use native.Mathlib.Omega.{arith}
 use lib.Dec.{eqb, leb}
 use lib.ListN.{length, getD}
 use Rattle.std.proofs.shelf.Lists.{length-append}
-use Rattle.std.proofs.shelf.Tests.{cases-lt, both-ways, eq-eqb}
+use Rattle.std.proofs.shelf.Tests.{cases-lt, both-ways, eq-eqb, or-right}
 use Rattle.std.specs.declared.option.Option.{Option}
 use Rattle.std.specs.declared.option.Option.the-variants.{Some, None}
 use Rattle.model.specs.declared.command.Command.{Command}
@@ -22,7 +22,7 @@ use Rattle.model.specs.Hazards.{has-read, ended, hazard}
 use Rattle.model.specs.Acts.{State, Outcome, goes, stops, then, stop-at, tested, noted, written, writing, attempt, act}
 use Rattle.model.specs.Order.{carry, script}
 use Rattle.model.proofs.Brief.{brief}
-use Rattle.model.proofs.Bridge.{goes-is, not-goes}
+use Rattle.model.proofs.Correspond.{goes-is, not-goes}
 
 -- ONE MORE ENTRY
 
@@ -51,6 +51,7 @@ pub record Read-act (cs : List Command) (l : ℕ) (s r : State) : Type 0 where
   pub file : ℕ
   pub number : ℕ
   pub asks : wants cs l (has-read (s .pool) l (s .entries)) ≡ reads file
+  pub now : number ≡ known (s .pool) (getD (s .files) file 0)
   pub quiet : hazard (record { line = l; wrote = false; file = file; number = number }) (s .entries) ≡ None
   pub is : r ≡ noted (record { line = l; wrote = false; file = file; number = number }) s
 
@@ -67,13 +68,13 @@ module _ (cs : List Command) (l : ℕ) (s r : State) where
   abbrev xs : List Content
   xs = has-read (s .pool) l (s .entries)
 
-  read-by : (f n : ℕ) → wants cs l xs ≡ reads f → (m : Option Hazard) → hazard (record { line = l; wrote = false; file = f; number = n }) (s .entries) ≡ m →
+  read-by : (f n : ℕ) → n ≡ known (s .pool) (getD (s .files) f 0) → wants cs l xs ≡ reads f → (m : Option Hazard) → hazard (record { line = l; wrote = false; file = f; number = n }) (s .entries) ≡ m →
       (z u : Bool) (x y : Stop) → tested l (noted (record { line = l; wrote = false; file = f; number = n }) s) m
       (cond z (stops (noted (record { line = l; wrote = false; file = f; number = n }) s) x) (cond u (stops (noted (record { line = l; wrote = false; file = f; number = n }) s) y) (goes (noted (record { line = l; wrote = false; file = f; number = n }) s)))) ≡ goes r → Read-act cs l s r
-  read-by f n d (Some h) m z u x y k = not-goes k
-  read-by f n d None m true u x y k = not-goes k
-  read-by f n d None m false true x y k = not-goes k
-  read-by f n d None m false false x y k = record { file = f; number = n; asks = d; quiet = m; is = sym (goes-is k) }
+  read-by f n i d (Some h) m z u x y k = not-goes k
+  read-by f n i d None m true u x y k = not-goes k
+  read-by f n i d None m false true x y k = not-goes k
+  read-by f n i d None m false false x y k = record { file = f; number = n; asks = d; now = i; quiet = m; is = sym (goes-is k) }
 
   write-by : (f : ℕ) (x : Content) (n : ℕ) → wants cs l xs ≡ writes f x → given (s .pool) x ≡ n → writing l s f (put (s .pool) x) n ≡ goes r → Write-act cs l s r
   write-by f x zero d g k = not-goes k
@@ -95,7 +96,7 @@ module _ (cs : List Command) (l : ℕ) (s r : State) where
       by bad d k = not-goes k
       by (reads f) d k =
           let n = known (s .pool) (getD (s .files) f 0) in
-          inl (read-by f n d (hazard (record { line = l; wrote = false; file = f; number = n }) (s .entries)) refl (eqb n 0) (is-bad (wants cs l (xs ++ content (s .pool) n ∷ []))) (stop-at l Absent) (stop-at l BadList) k)
+          inl (read-by f n refl d (hazard (record { line = l; wrote = false; file = f; number = n }) (s .entries)) refl (eqb n 0) (is-bad (wants cs l (xs ++ content (s .pool) n ∷ []))) (stop-at l Absent) (stop-at l BadList) k)
       by (writes f x) d k = inr (small f x d (leb (length x) 4096) (stop-at l TooLong) k)
 
   -- it ended its line, or was one of its at most 16 reads
@@ -112,11 +113,7 @@ module _ (cs : List Command) (l : ℕ) (s r : State) where
       read a = inr (brief cs l (a .file) xs (a .asks), rw (a .is, has-read-more (s .pool) l (s .entries) (record { line = l; wrote = false; file = a .file; number = a .number } ∷ []), own, length-append xs (content (s .pool) (a .number) ∷ [])) (omega arith))
 
       write : Write-act cs l s r → Nearer
-      write a = inl (rw (a .is, ended-more l (s .entries) (record { line = l; wrote = true; file = a .file; number = suc (a .number) } ∷ []), own) (or-true (ended l (s .entries))))
-        where
-          or-true : (b : Bool) → (b || true) ≡ true
-          or-true true = refl
-          or-true false = refl
+      write a = inl (rw (a .is, ended-more l (s .entries) (record { line = l; wrote = true; file = a .file; number = suc (a .number) } ∷ []), own) (or-right _ true refl))
 
   pub stays : act (wants cs l) l s ≡ goes r → (m : ℕ) → ended m (s .entries) ≡ true → ended m (r .entries) ≡ true
   stays e m h = ⊎-elim read write (was e)

@@ -1,6 +1,6 @@
 -- A skip by a true record is the line's own acts, number for number. Assumes nothing.
 use mathlib.Core.Path.{_≡_, refl, sym, ap, subst, _∙_}
-use mathlib.Core.Bool.{Bool, true, false, cond, not, _&&_}
+use mathlib.Core.Bool.{Bool, true, false, cond, not}
 use mathlib.Core.List.{List, [], _∷_, _++_}
 use Prim.Native.Nat.{ℕ, zero, suc, _+_, _-_, _≤_, _<_}
 use native.Mathlib.Omega.{arith}
@@ -27,7 +27,7 @@ use Rattle.model.specs.Records.{Record}
 use Rattle.model.specs.Truth.{asks, makes, follows, true-in}
 use Rattle.model.specs.Book.{same-command, own, record-of}
 use Rattle.model.specs.Step.{match, all-held, usable, skips, entry, skip, skips-at}
-use Rattle.model.specs.Promise.{Honest}
+use Rattle.model.specs.Promise.{Own-true}
 use Rattle.model.proofs.Brief.{brief}
 use Rattle.model.proofs.Keys.{same-is}
 use Rattle.model.proofs.Pools.{Grows, holds-parts, grows-holds, Distinct, mem-at, find-at}
@@ -67,9 +67,9 @@ follows-grown p q g k (r ∷ rs) xs u h =
     let j = grows-holds p q g (r .number) (b .0) in
     and-from _ _ (j .0) (and-from _ _ (c .0) (rw (j .1) (follows-grown p q g k rs (xs ++ content p (r .number) ∷ []) u (c .1))))
 
-pub honest-grown : (p q : Pool) → Grows p q → (rs : List Record) → Honest p rs → Honest q rs
-honest-grown p q g [] h = tt
-honest-grown p q g (r ∷ rs) h = (λ o. follows-grown p q g (want (r .command)) (r .reads) [] (r .write) (h .0 o), honest-grown p q g rs (h .1))
+pub own-true-grown : (p q : Pool) → Grows p q → (rs : List Record) → Own-true p rs → Own-true q rs
+own-true-grown p q g [] h = tt
+own-true-grown p q g (r ∷ rs) h = (λ o. follows-grown p q g (want (r .command)) (r .reads) [] (r .write) (h .0 o), own-true-grown p q g rs (h .1))
 
 -- a true record has at most 16 reads
 few : (p : Pool) (k : List Content → Want) → ((f : ℕ) (ys : List Content) → k ys ≡ reads f → length ys < 16) →
@@ -175,12 +175,22 @@ fresh-has p l (e ∷ es) h =
     let ih = fresh-has p l es (b .1) in
     (rw out (ih .0), rw out (ih .1))
 
+-- a skip is of a line that has made no act
+pub skips-fresh : (rs : List Record) (l : ℕ) (s : State) (q : Record) (cs : List Command) (k : ℕ) → skips-at rs cs k l s ≡ Some q → fresh l (s .entries) ≡ true
+skips-fresh rs l s q [] k e = let z : _≡_ {A = ℕ} 0 1 = cc in absurd (omega arith)
+skips-fresh rs l s q (c ∷ cs) zero e = by (fresh l (s .entries)) _ e
+  where
+    by : (b : Bool) (o : Option Record) → cond b o None ≡ Some q → b ≡ true
+    by true o h = refl
+    by false o h = let z : _≡_ {A = ℕ} 0 1 = cc in absurd (omega arith)
+skips-fresh rs l s q (c ∷ cs) (suc k) e = skips-fresh rs l s q cs k e
+
 -- a record of the list, of that command
 pub record Noted (p : Pool) (c : Command) (q : Record) : Type 0 where
   pub same : same-command c (q .command) ≡ true
   pub true-if : q .standing ≡ Own → true-in p q ≡ true
 
-record-is : (p : Pool) (c : Command) (rs : List Record) (q : Record) → Honest p rs → record-of c rs ≡ Some q → Noted p c q
+pub record-is : (p : Pool) (c : Command) (rs : List Record) (q : Record) → Own-true p rs → record-of c rs ≡ Some q → Noted p c q
 record-is p c [] q h e = let z : _≡_ {A = ℕ} 0 1 = cc in absurd (omega arith)
 record-is p c (r ∷ rs) q h e = by (same-command c (r .command)) refl e (record-is p c rs q (h .1))
   where
@@ -199,7 +209,7 @@ pub record Skips (p : Pool) (cs : List Command) (k l : ℕ) (s : State) (q : Rec
   pub matching : match (s .files) (q .reads) ≡ true
   pub is-true : true-in p q ≡ true
 
-module _ (p : Pool) (rs : List Record) (honest : Honest p rs) (l : ℕ) (s : State) (q : Record) where
+module _ (p : Pool) (rs : List Record) (own-true : Own-true p rs) (l : ℕ) (s : State) (q : Record) where
   -- what was found of a record that line l can be skipped by
   abbrev Fit : Command → Record → Type 0
   Fit c r = Noted p c r × (fresh l (s .entries) ≡ true) × (own (r .standing) ≡ true) × (match (s .files) (r .reads) ≡ true)
@@ -221,7 +231,7 @@ module _ (p : Pool) (rs : List Record) (honest : Honest p rs) (l : ℕ) (s : Sta
           let g = go r _ k in
           let both = and-parts (own (r .standing)) _ (g .1) in
           let held = and-parts (all-held (s .pool) (r .write ∷ r .reads)) _ (both .1) in
-          subst (Fit c) (g .0) (record-is p c rs r honest i, d, both .0, held .1)
+          subst (Fit c) (g .0) (record-is p c rs r own-true i, d, both .0, held .1)
 
   pub skips-at-is : (cs : List Command) (k : ℕ) → skips-at rs cs k l s ≡ Some q → Skips p cs k l s q
   skips-at-is [] k e = let z : _≡_ {A = ℕ} 0 1 = cc in absurd (omega arith)
@@ -238,10 +248,10 @@ skips-few cs l s q p h = omega (arith, few p (want (q .command)) (λ g ys i. bri
 
 -- so it is the rest of the line
 pub skipped-is :
-    (cs : List Command) (l : ℕ) (s : State) (rs : List Record) (q : Record) → Honest (s .pool) rs → Distinct (s .pool .contents) → Short (s .pool .contents) →
+    (cs : List Command) (l : ℕ) (s : State) (rs : List Record) (q : Record) → Own-true (s .pool) rs → Distinct (s .pool .contents) → Short (s .pool .contents) →
     skips-at rs cs l l s ≡ Some q → carry (wants cs l) 17 l s ≡ skip l (q .reads) (q .write) s
-skipped-is cs l s rs q honest d short e =
-    let h = skips-at-is (s .pool) rs honest l s q cs l e in
+skipped-is cs l s rs q own-true d short e =
+    let h = skips-at-is (s .pool) rs own-true l s q cs l e in
     let f = fresh-has (s .pool) l (s .entries) (h .first) in
     let n = skips-few cs l s q (s .pool) h in
     skip-is cs l (q .command) (h .wanted) 17 s (q .reads) (q .write) (omega (arith, n)) d short (f .1) (h .matching) (rw (f .0) (h .is-true))

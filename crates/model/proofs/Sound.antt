@@ -19,7 +19,7 @@ use Rattle.model.specs.declared.run.Entry.{Entry}
 use Rattle.model.specs.declared.record.Standing.the-variants.{Own, Struck}
 use Rattle.model.specs.declared.answers.Stepped.{Stepped}
 use Rattle.model.specs.Contents.{Content, Pool, count, put, cut}
-use Rattle.model.specs.Commands.{wants}
+use Rattle.model.specs.Commands.{Want, wants}
 use Rattle.model.specs.Hazards.{ended}
 use Rattle.model.specs.Acts.{State, Outcome, goes, stops, then, reached, stop-of, act}
 use Rattle.model.specs.Order.{carry}
@@ -31,16 +31,15 @@ use Rattle.model.specs.Load.{hints, hinted}
 use Rattle.model.specs.Audit.{at-place, judged, finding}
 use Rattle.model.specs.Begin.{Ticket, least-places, some-above, begin-refusal, begun}
 use Rattle.model.specs.Step.{Worked, left, all-ended, record-for, work-by, work, after-work}
-use Rattle.model.specs.Close.{put-back, kept}
 use Rattle.model.specs.Calls.{Call, on-lay, on-load, on-audit, on-begin, on-step, on-close, Does}
 use Rattle.model.specs.Past.{Past, new, call, Found, found-by, found}
-use Rattle.model.specs.Promise.{Honest}
+use Rattle.model.specs.Promise.{Own-true}
 use Rattle.model.proofs.Trace.{Trace, Steps}
 use Rattle.model.proofs.Pools.{Grows, grows-refl, grows-trans, grows-put}
-use Rattle.model.proofs.Bridge.{start, Bridged, acted, not-goes, goes-is}
-use Rattle.model.proofs.Skip.{honest-grown, skipped-is}
-use Rattle.model.proofs.Keep.{hint-honest, kept-honest}
-use Rattle.model.proofs.Order.{bridged-new}
+use Rattle.model.proofs.Correspond.{start, Corresponds, acted, not-goes, goes-is}
+use Rattle.model.proofs.Skip.{own-true-grown, skipped-is}
+use Rattle.model.proofs.Keep.{hint-own-true, kept-own-true}
+use Rattle.model.proofs.Order.{corresponds-new}
 use Rattle.model.proofs.Growth.{Fine, fine-put, Base, base-put, base-grows, act-pool, carry-pool, laid-pool, puts-pool}
 use Rattle.model.proofs.Changes.{Change, same, lay-done, load-done, audit-done, back-done, keep-done, lay-change, load-change, audit-change, ending, close-change}
 
@@ -49,24 +48,28 @@ use Rattle.model.proofs.Changes.{Change, same, lay-done, load-done, audit-done
 -- an open run that has not stopped, from what its begin found
 pub record Going (b : Found) (s : State) : Type 0 where
   pub acts : Trace
-  pub bridge : Bridged (start (b .commands) (b .files) (b .pool)) s acts
+  pub corresponds : Corresponds (start (b .commands) (b .files) (b .pool)) s acts
   pub steps : Steps (start (b .commands) (b .files) (b .pool)) acts
 
 pub going-act : (b : Found) (l : ℕ) (s r : State) → Going b s → l < length (b .commands) → ended l (s .entries) ≡ false → act (wants (b .commands) l) l s ≡ goes r → Going b r
 going-act b l s r g lt still e =
-    let a = acted (b .commands) (b .files) (b .pool) s (g .acts) (g .bridge) l r lt still e in
-    record { acts = a .did ∷ g .acts; bridge = a .next; steps = (a .ok, g .steps) }
+    let a = acted (b .commands) (b .files) (b .pool) s (g .acts) (g .corresponds) l r lt still e in
+    record { acts = a .did ∷ g .acts; corresponds = a .next; steps = (a .ok, g .steps) }
 
-pub going-carry : (b : Found) (k l : ℕ) (s r : State) → Going b s → l < length (b .commands) → carry (wants (b .commands) l) k l s ≡ goes r → Going b r
-going-carry b zero l s r g lt e = subst (Going b) (goes-is e) g
-going-carry b (suc k) l s r g lt e = by (ended l (s .entries)) refl (act (wants (b .commands) l) l s) refl e (λ u h. going-carry b k l u r h lt)
+-- what each act of a line keeps, all of them keep
+pub carry-keeps :
+    (P : State → Type 0) (k : List Content → Want) (l : ℕ) → ((s r : State) → P s → ended l (s .entries) ≡ false → act k l s ≡ goes r → P r) →
+    (n : ℕ) (s r : State) → P s → carry k n l s ≡ goes r → P r
+carry-keeps P k l keeps zero s r h e = subst P (goes-is e) h
+carry-keeps P k l keeps (suc n) s r h e = by (ended l (s .entries)) refl (act k l s) refl e (λ u. carry-keeps P k l keeps n u r)
   where
-    by :
-        (c : Bool) → ended l (s .entries) ≡ c → (t : Outcome) → act (wants (b .commands) l) l s ≡ t → cond c (goes s) (then t (carry (wants (b .commands) l) k l)) ≡ goes r →
-        ((u : State) → Going b u → carry (wants (b .commands) l) k l u ≡ goes r → Going b r) → Going b r
-    by true d t i j ih = subst (Going b) (goes-is j) g
-    by false d (goes u) i j ih = ih u (going-act b l s u g lt d i) j
+    by : (c : Bool) → ended l (s .entries) ≡ c → (t : Outcome) → act k l s ≡ t → cond c (goes s) (then t (carry k n l)) ≡ goes r → ((u : State) → P u → carry k n l u ≡ goes r → P r) → P r
+    by true d t i j ih = subst P (goes-is j) h
+    by false d (goes u) i j ih = ih u (keeps s u h d i) j
     by false d (stops u y) i j ih = not-goes j
+
+pub going-carry : (b : Found) (n l : ℕ) (s r : State) → Going b s → l < length (b .commands) → carry (wants (b .commands) l) n l s ≡ goes r → Going b r
+going-carry b n l s r g lt e = carry-keeps (Going b) (wants (b .commands) l) l (λ u v h still i. going-act b l u v h lt still i) n s r g e
 
 -- THE INVARIANT
 
@@ -77,19 +80,19 @@ pub record Open (b : Found) (w : World) : Type 0 where
   pub base : Base (b .pool) (w .pool)
   pub filed : (f : ℕ) → getD (b .files) f 0 ≤ count (b .pool)
   pub fine : Fine (b .pool)
-  pub honest : Honest (b .pool) (w .records)
+  pub own-true : Own-true (b .pool) (w .records)
   pub log-room : 17 * length (b .commands) ≤ w .log-places
   pub book-room : least-places ≤ w .book-places
   pub going : w .notes .stop ≡ None → Going b (state w)
 
 pub record Sound (w : World) (b : Found) : Type 0 where
   pub fine : Fine (w .pool)
-  pub closed : w .is-open ≡ false → Honest (w .pool) (w .records)
+  pub closed : w .is-open ≡ false → Own-true (w .pool) (w .records)
   pub open-run : w .is-open ≡ true → Open b w
 
 -- own records, in an open run
-pub honest-now : (b : Found) (w : World) → Open b w → Honest (w .pool) (w .records)
-honest-now b w o = honest-grown (b .pool) (w .pool) (base-grows (b .pool) (w .pool) (o .base)) (w .records) (o .honest)
+pub own-true-now : (b : Found) (w : World) → Open b w → Own-true (w .pool) (w .records)
+own-true-now b w o = own-true-grown (b .pool) (w .pool) (base-grows (b .pool) (w .pool) (o .base)) (w .records) (o .own-true)
 
 -- THE CALLS THAT NEITHER BEGIN NOR STEP
 
@@ -101,9 +104,9 @@ record Grown (b : Pool) (p : Pool) : Type 0 where
 grown-put : (b p : Pool) (x : Content) → Grown b p → Grown b (put p x)
 grown-put b p x h = record { more = grows-trans b p (put p x) (h .more) (grows-put p x); fine = fine-put p x (h .fine) }
 
-hints-honest : (p : Pool) (xs : List Content) (qs rs : List Record) → Honest p rs → Honest p (hints xs p qs rs)
-hints-honest p xs [] rs h = h
-hints-honest p xs (q ∷ qs) rs h = hints-honest p xs qs _ (hint-honest p (hinted xs p q) refl rs h)
+hints-own-true : (p : Pool) (xs : List Content) (qs rs : List Record) → Own-true p rs → Own-true p (hints xs p qs rs)
+hints-own-true p xs [] rs h = h
+hints-own-true p xs (q ∷ qs) rs h = hints-own-true p xs qs _ (hint-own-true p (hinted xs p q) refl rs h)
 
 found-true : (p : Pool) (r : Record) → finding p r ≡ Own → true-in p r ≡ true
 found-true p r = go (true-in p r)
@@ -112,10 +115,10 @@ found-true p r = go (true-in p r)
     go true e = refl
     go false e = let z : _≡_ {A = ℕ} 0 1 = cc in absurd (omega arith)
 
-audit-honest : (p : Pool) (rs : List Record) (k : ℕ) (r : Record) → at-place rs k ≡ Some r → Honest p rs → Honest p (set rs k (judged p r))
-audit-honest p [] k r e h = tt
-audit-honest p (q ∷ rs) zero r e h = (found-true p r, h .1)
-audit-honest p (q ∷ rs) (suc k) r e h = (h .0, audit-honest p rs k r e (h .1))
+audit-own-true : (p : Pool) (rs : List Record) (k : ℕ) (r : Record) → at-place rs k ≡ Some r → Own-true p rs → Own-true p (set rs k (judged p r))
+audit-own-true p [] k r e h = tt
+audit-own-true p (q ∷ rs) zero r e h = (found-true p r, h .1)
+audit-own-true p (q ∷ rs) (suc k) r e h = (h .0, audit-own-true p rs k r e (h .1))
 
 pub all-below : (n : ℕ) (es : List Entry) → all-ended n es ≡ true → (l : ℕ) → l < n → ended l es ≡ true
 all-below zero es h l lt = absurd (omega arith)
@@ -125,7 +128,7 @@ all-below (suc n) es h l lt =
 
 module _ (w v : World) (b : Found) (s : Sound w b) where
   -- a world with no open run
-  sound-closed : v .is-open ≡ false → Fine (v .pool) → Honest (v .pool) (v .records) → Sound v b
+  sound-closed : v .is-open ≡ false → Fine (v .pool) → Own-true (v .pool) (v .records) → Sound v b
   sound-closed i f h = record { fine = f; closed = λ _. h; open-run = λ j. absurd (both-ways _ i j) }
 
   now-grown : Grown (w .pool) (w .pool)
@@ -135,20 +138,20 @@ module _ (w v : World) (b : Found) (s : Sound w b) where
   sound-change (same e) = rw e s
   sound-change (lay-done hs g c e i) =
       let f = laid-pool (Grown (w .pool)) (grown-put (w .pool)) hs (w .files) (w .pool) g now-grown e in
-      sound-closed (ap (λ x. x .is-open) i ∙ c) (rw i (f .fine)) (rw i (honest-grown (w .pool) (g .pool) (f .more) (w .records) (s .closed c)))
+      sound-closed (ap (λ x. x .is-open) i ∙ c) (rw i (f .fine)) (rw i (own-true-grown (w .pool) (g .pool) (f .more) (w .records) (s .closed c)))
   sound-change (load-done t p c e n i) =
       let f = puts-pool (Grown (w .pool)) (grown-put (w .pool)) (t .contents) (w .pool) p now-grown e in
-      sound-closed (ap (λ x. x .is-open) i ∙ c) (rw i (f .fine)) (rw i (hints-honest p (t .contents) (t .records) (w .records) (honest-grown (w .pool) p (f .more) (w .records) (s .closed c))))
+      sound-closed (ap (λ x. x .is-open) i ∙ c) (rw i (f .fine)) (rw i (hints-own-true p (t .contents) (t .records) (w .records) (own-true-grown (w .pool) p (f .more) (w .records) (s .closed c))))
   sound-change (audit-done k r c e i) =
-      sound-closed (ap (λ x. x .is-open) i ∙ c) (rw i (s .fine)) (rw i (audit-honest (w .pool) (w .records) k r e (s .closed c)))
+      sound-closed (ap (λ x. x .is-open) i ∙ c) (rw i (s .fine)) (rw i (audit-own-true (w .pool) (w .records) k r e (s .closed c)))
   sound-change (back-done c i) =
       let o = s .open-run c in
       let cut-is : cut (w .notes .count) (w .pool) ≡ b .pool = ap (λ n. cut n (w .pool)) (o .count-is) ∙ o .base .cut-is in
-      sound-closed (ap (λ x. x .is-open) i) (rw i (subst Fine (sym cut-is) (o .fine))) (rw i (subst (λ q. Honest q (w .records)) (sym cut-is) (o .honest)))
+      sound-closed (ap (λ x. x .is-open) i) (rw i (subst Fine (sym cut-is) (o .fine))) (rw i (subst (λ q. Own-true q (w .records)) (sym cut-is) (o .own-true)))
   sound-change (keep-done c going all i) =
       let o = s .open-run c in
       let g = o .going going in
-      let more = kept-honest (b .commands) (b .files) (b .pool) (state w) (g .acts) (g .bridge) (g .steps) (w .book-places) (w .records) (λ l lt. all-below (lines w) (w .entries) all l (rw (o .commands) lt)) (honest-now b w o) in
+      let more = kept-own-true (b .commands) (b .files) (b .pool) (state w) (g .acts) (g .corresponds) (g .steps) (w .book-places) (w .records) (λ l lt. all-below (lines w) (w .entries) all l (rw (o .commands) lt)) (own-true-now b w o) in
       sound-closed (ap (λ x. x .is-open) i) (rw i (s .fine)) (rw i (rw (o .commands) more))
 
 -- BEGIN
@@ -196,10 +199,10 @@ sound-begin w v b s cs h e =
         base = record { low = omega arith; cut-is = take-count (w .pool); fine = s .fine };
         filed = r .filed;
         fine = s .fine;
-        honest = s .closed (r .none-open);
+        own-true = s .closed (r .none-open);
         log-room = r .log-room;
         book-room = r .book-room;
-        going = λ g. record { acts = []; bridge = bridged-new cs (w .files) (w .pool) (r .filed); steps = tt };
+        going = λ g. record { acts = []; corresponds = corresponds-new cs (w .files) (w .pool) (r .filed); steps = tt };
       };
     })
 
@@ -215,7 +218,7 @@ work-is w b o l = by (record-for w l) refl
     by : (q : Option Record) → record-for w l ≡ q → (work-by q (w .notes .commands) l (state w) ≡ act (wants (b .commands) l) l (state w)) ⊎ (work-by q (w .notes .commands) l (state w) ≡ carry (wants (b .commands) l) 17 l (state w))
     by None e = inl (ap (λ cs. act (wants cs l) l (state w)) (o .commands))
     by (Some q) e =
-        inr (sym (skipped-is (w .notes .commands) l (state w) (w .records) q (honest-now b w o) (o .base .fine .distinct) (o .base .fine .short) e) ∙ ap (λ cs. carry (wants cs l) 17 l (state w)) (o .commands))
+        inr (sym (skipped-is (w .notes .commands) l (state w) (w .records) q (own-true-now b w o) (o .base .fine .distinct) (o .base .fine .short) e) ∙ ap (λ cs. carry (wants cs l) 17 l (state w)) (o .commands))
 
 module _ (w : World) (b : Found) (o : Open b w) (l : ℕ) where
   work-base : Base (b .pool) (reached (work w l) .pool)
@@ -241,7 +244,7 @@ module _ (w : World) (b : Found) (o : Open b w) (l : ℕ) where
       base = p;
       filed = o .filed;
       fine = o .fine;
-      honest = o .honest;
+      own-true = o .own-true;
       log-room = o .log-room;
       book-room = o .book-room;
       going = g;

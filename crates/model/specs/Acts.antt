@@ -1,17 +1,7 @@
 -- One act of a line: its tests in order, and what it leaves.
-use mathlib.Core.Bool.{Bool, true, false, cond, _&&_, _||_}
-use mathlib.Core.List.{List, [], _∷_, _++_}
-use Prim.Native.Nat.{ℕ, zero, suc}
-use lib.Dec.{eqb, leb}
-use lib.ListN.{length, getD, set}
-use Rattle.std.specs.declared.option.Option.{Option}
-use Rattle.std.specs.declared.option.Option.the-variants.{Some, None}
-use Rattle.model.specs.declared.run.Entry.{Entry}
+use Rattle.model.specs.Words.{Bool, true, false, cond, _&&_, _||_, List, [], _∷_, _++_, ℕ, zero, suc, eqb, leb, length, getD, set, Option, Some, None, Entry, Fault, Stop, LineState}
 use Rattle.model.specs.declared.run.Hazard as Met
-use Rattle.model.specs.declared.run.Fault.{Fault}
 use Rattle.model.specs.declared.run.Fault.the-variants.{TooLong, NoRoom, Hazard, Absent, BadList}
-use Rattle.model.specs.declared.run.Stop.{Stop}
-use Rattle.model.specs.declared.run.LineState.{LineState}
 use Rattle.model.specs.declared.run.LineState.the-variants.{Waiting, Reading, Writing, Ended}
 use Rattle.model.specs.Contents.{Content, Pool, content, known, given, put}
 use Rattle.model.specs.Commands.{Want, reads, writes, bad, is-bad}

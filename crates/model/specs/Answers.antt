@@ -1,7 +1,6 @@
 -- The refusal by which each answer that is no success is told.
-use Rattle.model.specs.declared.refusal.Refusal.{Refusal}
+use Rattle.model.specs.Words.{Refusal, Fault}
 use Rattle.model.specs.declared.refusal.Refusal.the-variants as R
-use Rattle.model.specs.declared.run.Fault.{Fault}
 use Rattle.model.specs.declared.run.Fault.the-variants.{TooLong, NoRoom, Hazard, Absent, BadList}
 use Rattle.model.specs.declared.answers.StepRefusal as Step
 use Rattle.model.specs.declared.answers.StepRefusal.the-variants as S

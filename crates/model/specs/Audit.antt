@@ -1,14 +1,5 @@
 -- AUDIT replays the record in a place: a true one becomes own, another struck.
-use mathlib.Core.Path.{_≡_}
-use mathlib.Core.Bool.{cond}
-use mathlib.Core.List.{List, [], _∷_}
-use Prim.Native.Nat.{ℕ, zero, suc}
-use lib.ListN.{set}
-use Rattle.std.specs.declared.option.Option.{Option}
-use Rattle.std.specs.declared.option.Option.the-variants.{Some, None}
-use Rattle.std.specs.declared.result.Result.{Result}
-use Rattle.std.specs.declared.result.Result.the-variants.{Ok}
-use Rattle.model.specs.declared.refusal.Refusal.{Refusal}
+use Rattle.model.specs.Words.{_≡_, cond, List, [], _∷_, ℕ, zero, suc, set, Option, Some, None, Result, Ok, Refusal}
 use Rattle.model.specs.declared.refusal.Refusal.the-variants.{NoSuchRecord}
 use Rattle.model.specs.declared.record.Standing.the-variants.{Own, Struck}
 use Rattle.model.specs.Contents.{Pool}
@@ -22,7 +13,7 @@ finding p r = cond (true-in p r) Own Struck
 abbrev pub judged : Pool → Record → Record
 judged p r = record { command = r .command; reads = r .reads; write = r .write; standing = finding p r }
 
-abbrev pub at-place : List Record → ℕ → Option Record
+abbrev pub at-place : {A : Type 0} → List A → ℕ → Option A
 at-place [] k = None
 at-place (r ∷ rs) zero = Some r
 at-place (r ∷ rs) (suc k) = at-place rs k

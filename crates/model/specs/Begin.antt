@@ -1,14 +1,5 @@
 -- BEGIN opens a run: it empties the log and notes the commands, the files and the pool's extent.
-use mathlib.Core.Path.{_≡_}
-use mathlib.Core.Bool.{Bool, true, false, cond, _||_}
-use mathlib.Core.List.{List, [], _∷_}
-use Prim.Native.Nat.{ℕ, _*_, _≤_}
-use lib.Dec.{ltb}
-use lib.ListN.{length, replicate}
-use Rattle.std.specs.declared.option.Option.{Option}
-use Rattle.std.specs.declared.option.Option.the-variants.{Some, None}
-use Rattle.model.specs.declared.command.Command.{Command}
-use Rattle.model.specs.declared.refusal.Refusal.{Refusal}
+use Rattle.model.specs.Words.{_≡_, Bool, true, false, cond, _||_, List, [], _∷_, ℕ, _*_, _≤_, ltb, length, replicate, Option, Some, None, Command, Refusal}
 use Rattle.model.specs.declared.refusal.Refusal.the-variants.{RunOpen, LogTooSmall, BookTooSmall, UnknownContent}
 use Rattle.model.specs.declared.run.LineState.the-variants.{Waiting}
 use Rattle.model.specs.Contents.{count}

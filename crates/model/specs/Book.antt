@@ -1,13 +1,5 @@
 -- The rules of the book: which record a command has, and where a record goes.
-use mathlib.Core.Bool.{Bool, true, false, cond, _&&_, _||_}
-use mathlib.Core.List.{List, [], _∷_, _++_}
-use Prim.Native.Nat.{ℕ, suc}
-use lib.Dec.{eqb, ltb}
-use lib.ListN.{length}
-use Rattle.std.specs.declared.option.Option.{Option}
-use Rattle.std.specs.declared.option.Option.the-variants.{Some, None}
-use Rattle.model.specs.declared.command.Command.{Command}
-use Rattle.model.specs.declared.run.Entry.{Entry}
+use Rattle.model.specs.Words.{Bool, true, false, cond, _&&_, _||_, List, [], _∷_, _++_, ℕ, suc, eqb, ltb, length, Option, Some, None, Command, Entry}
 use Rattle.model.specs.declared.record.Standing.the-variants.{Hint, Own, Struck}
 use Rattle.model.specs.Numbers.{kind-number}
 use Rattle.model.specs.Records.{Use, Record, Standing}

@@ -1,24 +1,8 @@
 -- BUILD, by the smaller calls: one run under the policy, and where that stops, a second one in script order.
-use mathlib.Core.List.{List}
-use mathlib.Core.Bool.{Bool, false, cond, not, _&&_, _||_}
-use Prim.Native.Nat.{ℕ, _+_}
-use lib.Dec.{eqb, ltb}
-use lib.ListN.{length}
-use Rattle.std.specs.declared.option.Option.{Option}
-use Rattle.std.specs.declared.option.Option.the-variants.{Some, None}
-use Rattle.std.specs.declared.result.Result.{Result}
-use Rattle.std.specs.declared.result.Result.the-variants.{Ok, Err}
-use Rattle.model.specs.declared.command.Command.{Command}
-use Rattle.model.specs.declared.refusal.Refusal.{Refusal}
-use Rattle.model.specs.declared.run.Stop.{Stop}
-use Rattle.model.specs.declared.answers.Stepped.{Stepped}
+use Rattle.model.specs.Words.{List, Bool, false, cond, not, _&&_, _||_, ℕ, _+_, eqb, ltb, length, Option, Some, None, Result, Ok, Err, Command, Refusal, Stop, Stepped, Closed, CloseRefusal, Built, BuildRefusal}
 use Rattle.model.specs.declared.answers.Wish.the-variants.{Keep}
-use Rattle.model.specs.declared.answers.Closed.{Closed}
 use Rattle.model.specs.declared.answers.Closed.the-variants.{Kept}
-use Rattle.model.specs.declared.answers.CloseRefusal.{CloseRefusal}
 use Rattle.model.specs.declared.answers.CloseRefusal.the-variants as C
-use Rattle.model.specs.declared.answers.Built.{Built}
-use Rattle.model.specs.declared.answers.BuildRefusal.{BuildRefusal}
 use Rattle.model.specs.declared.answers.BuildRefusal.the-variants.{By, Stopped}
 use Rattle.model.specs.Hazards.{fresh}
 use Rattle.model.specs.World.{World}
@@ -39,6 +23,11 @@ executed (a-step {k} {v} h j s d) = executed h + cond (not (s .skipped) && fresh
 abbrev pub skipped : {m n : ℕ} {u : World} {k : ℕ} {v : World} → Steps m n u k v → ℕ
 skipped no-step = 0
 skipped (a-step h j s d) = skipped h + cond (s .skipped) 1 0
+
+-- line l made an act in one of them that was no skip
+abbrev pub acted : {m n : ℕ} {u : World} {k : ℕ} {v : World} → ℕ → Steps m n u k v → Bool
+acted l no-step = false
+acted l (a-step {k} {v} {w} h j s d) = (eqb l (s .line) && (not (s .skipped) && ltb (length (v .entries)) (length (w .entries)))) || acted l h
 
 -- their calls
 abbrev pub stepped : {m n : ℕ} {u : World} {k : ℕ} {v : World} → Steps m n u k v → Ran u v

@@ -1,15 +1,5 @@
 -- The calls that change the world, each with what it was given and what it answered. A build is made of these.
-use mathlib.Core.List.{List}
-use Prim.Native.Nat.{ℕ}
-use Rattle.std.specs.declared.result.Result.{Result}
-use Rattle.model.specs.declared.command.Command.{Command}
-use Rattle.model.specs.declared.refusal.Refusal.{Refusal}
-use Rattle.model.specs.declared.record.Standing.{Standing}
-use Rattle.model.specs.declared.answers.Stepped.{Stepped}
-use Rattle.model.specs.declared.answers.StepRefusal.{StepRefusal}
-use Rattle.model.specs.declared.answers.Wish.{Wish}
-use Rattle.model.specs.declared.answers.Closed.{Closed}
-use Rattle.model.specs.declared.answers.CloseRefusal.{CloseRefusal}
+use Rattle.model.specs.Words.{List, ℕ, Result, Command, Refusal, Standing, Stepped, StepRefusal, Wish, Closed, CloseRefusal}
 use Rattle.model.specs.Policies.{Asked}
 use Rattle.model.specs.World.{World}
 use Rattle.model.specs.Lay.{Have, Lays}

@@ -1,19 +1,8 @@
 -- CLOSE ends a run: it is kept, or put back to what begin found.
-use mathlib.Core.Path.{_≡_}
-use mathlib.Core.Bool.{Bool, true, false}
-use lib.ListN.{length}
-use Rattle.std.specs.declared.option.Option.{Option}
-use Rattle.std.specs.declared.option.Option.the-variants.{Some, None}
-use Rattle.std.specs.declared.result.Result.{Result}
-use Rattle.std.specs.declared.result.Result.the-variants.{Ok, Err}
-use Rattle.model.specs.declared.refusal.Refusal.{Refusal}
+use Rattle.model.specs.Words.{_≡_, Bool, true, false, Option, Some, None, Result, Ok, Err, Refusal, Stop, Wish, Closed, CloseRefusal}
 use Rattle.model.specs.declared.refusal.Refusal.the-variants.{LinesLeft, NoRun}
-use Rattle.model.specs.declared.run.Stop.{Stop}
-use Rattle.model.specs.declared.answers.Wish.{Wish}
 use Rattle.model.specs.declared.answers.Wish.the-variants as Wishes
-use Rattle.model.specs.declared.answers.Closed.{Closed}
 use Rattle.model.specs.declared.answers.Closed.the-variants.{Kept, PutBack}
-use Rattle.model.specs.declared.answers.CloseRefusal.{CloseRefusal}
 use Rattle.model.specs.declared.answers.CloseRefusal.the-variants.{By, Stopped}
 use Rattle.model.specs.Contents.{cut}
 use Rattle.model.specs.Book.{keeps}

@@ -1,15 +1,6 @@
 -- What a line does next, given the contents that it has read so far, the oldest first.
-use mathlib.Core.Bool.{Bool, true, false, cond}
-use mathlib.Core.List.{List, [], _∷_, _++_}
-use Prim.Native.Nat.{ℕ, zero, suc, _/_, _%_}
-use lib.Dec.{eqb, leb}
-use lib.ListN.{length, drop}
-use Rattle.std.specs.shelf.Text.{sameBytes}
-use Rattle.std.specs.declared.option.Option.{Option}
-use Rattle.std.specs.declared.option.Option.the-variants.{Some, None}
-use Rattle.model.specs.declared.command.Kind.{Kind}
+use Rattle.model.specs.Words.{Bool, true, false, cond, List, [], _∷_, _++_, ℕ, zero, suc, _/_, _%_, eqb, leb, length, drop, sameBytes, Option, Some, None, Kind, Command}
 use Rattle.model.specs.declared.command.Kind.the-variants.{Copy, Join, Gather, Choose, Tally, Check}
-use Rattle.model.specs.declared.command.Command.{Command}
 use Rattle.model.specs.Digits.{file-number}
 use Rattle.model.specs.Contents.{Content}
 
@@ -48,9 +39,9 @@ gathers b xs None = bad
 gathers b xs (Some fs) = next-listed b xs (drop (length xs) fs)
 
 -- CHOOSE: what it tests, that the first byte is `y`
-abbrev pub agrees : Content → Bool
-agrees [] = false
-agrees (c ∷ cs) = eqb c 121
+abbrev pub is-yes : Content → Bool
+is-yes [] = false
+is-yes (c ∷ cs) = eqb c 121
 
 -- TALLY: what it writes for a length, 64 bytes to a sheet, in four bytes with the most significant first
 abbrev pub sheets : ℕ → Content
@@ -71,7 +62,7 @@ next Join a b c d (x ∷ y ∷ xs) = writes c (x ++ y)
 next Gather a b c d [] = reads a
 next Gather a b c d (l ∷ xs) = gathers b xs (listed l)
 next Choose a b c d [] = reads a
-next Choose a b c d (x ∷ []) = reads (cond (agrees x) b c)
+next Choose a b c d (x ∷ []) = reads (cond (is-yes x) b c)
 next Choose a b c d (x ∷ y ∷ xs) = writes d y
 next Tally a b c d [] = reads a
 next Tally a b c d (x ∷ xs) = writes b (sheets (length x))

@@ -1,12 +1,5 @@
 -- What the log's entries tell: what each line has done, and the hazards of a new act.
-use mathlib.Core.Bool.{Bool, true, false, cond, not, _&&_, _||_}
-use mathlib.Core.List.{List, [], _∷_}
-use Prim.Native.Nat.{ℕ}
-use lib.Dec.{eqb, ltb}
-use Rattle.std.specs.declared.option.Option.{Option}
-use Rattle.std.specs.declared.option.Option.the-variants.{Some, None}
-use Rattle.model.specs.declared.run.Entry.{Entry}
-use Rattle.model.specs.declared.run.HazardKind.{HazardKind}
+use Rattle.model.specs.Words.{Bool, true, false, cond, not, _&&_, _||_, List, [], _∷_, ℕ, eqb, ltb, Option, Some, None, Entry, HazardKind}
 use Rattle.model.specs.declared.run.HazardKind.the-variants.{WriteWrite, ReadWrite, SpeculativeWriteRead}
 use Rattle.model.specs.declared.run.Hazard.{Hazard}
 use Rattle.model.specs.Contents.{Content, Pool, content}

@@ -1,15 +1,5 @@
 -- LAY puts starting contents into the pool and sets their files.
-use mathlib.Core.Path.{_≡_}
-use mathlib.Core.Bool.{cond}
-use mathlib.Core.List.{List, [], _∷_}
-use Prim.Native.Nat.{ℕ}
-use lib.Dec.{eqb}
-use lib.ListN.{set}
-use Rattle.std.specs.declared.option.Option.{Option}
-use Rattle.std.specs.declared.option.Option.the-variants.{Some, None}
-use Rattle.std.specs.declared.result.Result.{Result}
-use Rattle.std.specs.declared.result.Result.the-variants.{Ok}
-use Rattle.model.specs.declared.refusal.Refusal.{Refusal}
+use Rattle.model.specs.Words.{_≡_, cond, List, [], _∷_, ℕ, eqb, set, Option, Some, None, Result, Ok, Refusal}
 use Rattle.model.specs.declared.refusal.Refusal.the-variants.{NoRoomToLay}
 use Rattle.model.specs.Contents.{Content, Pool, given, put}
 use Rattle.model.specs.World.{World, stocked, Refused, Unless-open}

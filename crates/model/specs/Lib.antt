@@ -1,4 +1,5 @@
 -- In reading order.
+pub mod Words
 pub mod Numbers
 pub mod Digits
 pub mod Contents
@@ -23,3 +24,4 @@ pub mod Calls
 pub mod Past
 pub mod Build
 pub mod Promise
+pub mod Laws

@@ -1,15 +1,5 @@
 -- LOAD puts the contents of a trace file into the pool, and takes its records into the book as hints.
-use mathlib.Core.Path.{_≡_}
-use mathlib.Core.Bool.{Bool, true, false, cond}
-use mathlib.Core.List.{List, [], _∷_, map}
-use Prim.Native.Nat.{ℕ, _-_}
-use lib.Dec.{eqb, leb}
-use lib.ListN.{length, getD}
-use Rattle.std.specs.declared.option.Option.{Option}
-use Rattle.std.specs.declared.option.Option.the-variants.{Some, None}
-use Rattle.std.specs.declared.result.Result.{Result}
-use Rattle.std.specs.declared.result.Result.the-variants.{Ok, Err}
-use Rattle.model.specs.declared.refusal.Refusal.{Refusal}
+use Rattle.model.specs.Words.{_≡_, Bool, true, false, cond, List, [], _∷_, map, _-_, eqb, leb, length, getD, Option, Some, None, Result, Ok, Err, Refusal}
 use Rattle.model.specs.declared.refusal.Refusal.the-variants.{NoRoomToLoad}
 use Rattle.model.specs.declared.record.Standing.the-variants.{Hint}
 use Rattle.model.specs.Contents.{Content, Pool, find, given, put}

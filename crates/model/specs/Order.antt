@@ -1,8 +1,5 @@
 -- Script order: the plain run that every kept run is held against. It has no book, no policy and no skip.
-use mathlib.Core.Bool.{cond}
-use mathlib.Core.List.{List, [], _∷_}
-use Prim.Native.Nat.{ℕ, zero, suc}
-use Rattle.model.specs.declared.command.Command.{Command}
+use Rattle.model.specs.Words.{cond, List, [], _∷_, ℕ, zero, suc, Command}
 use Rattle.model.specs.Contents.{Content, Pool}
 use Rattle.model.specs.Commands.{Want, want}
 use Rattle.model.specs.Hazards.{ended}

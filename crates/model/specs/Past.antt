@@ -1,11 +1,5 @@
 -- Pasts: how a world came about, and what is read off that.
-use mathlib.Core.Path.{_≡_}
-use mathlib.Core.List.{List, []}
-use mathlib.Core.Bool.{Bool, cond, _&&_}
-use Prim.Native.Nat.{ℕ, _+_}
-use Rattle.std.specs.declared.option.Option.the-variants.{Some, None}
-use Rattle.std.specs.declared.result.Result.the-variants.{Ok, Err}
-use Rattle.model.specs.declared.command.Command.{Command}
+use Rattle.model.specs.Words.{_≡_, List, [], Bool, cond, _&&_, ℕ, _+_, Some, None, Ok, Err, Command}
 use Rattle.model.specs.Contents.{Pool}
 use Rattle.model.specs.World.{World, lines, Fresh}
 use Rattle.model.specs.Step.{left, all-ended}

@@ -1,34 +1,18 @@
 -- The promises, over every past.
-use mathlib.Core.Path.{_≡_}
-use mathlib.Core.List.{List, [], _∷_, _++_}
-use mathlib.Core.Bool.{Bool, true, false, cond}
-use Prim.Native.Nat.{ℕ, _+_, _*_, _≤_}
-use lib.Dec.{eqb}
-use lib.ListN.{getD, length}
-use Rattle.std.specs.declared.option.Option.{Option}
-use Rattle.std.specs.declared.option.Option.the-variants.{Some, None}
-use Rattle.std.specs.declared.result.Result.{Result}
-use Rattle.std.specs.declared.result.Result.the-variants.{Ok, Err}
-use Rattle.model.specs.declared.command.Command.{Command}
-use Rattle.model.specs.declared.run.Entry.{Entry}
-use Rattle.model.specs.declared.run.Stop.{Stop}
+use Rattle.model.specs.Words.{_≡_, List, [], _∷_, Bool, true, false, cond, ℕ, _+_, _*_, _≤_, eqb, getD, length, Option, Some, None, Result, Ok, Err, Command, Entry, Stop, Wish, Closed, CloseRefusal, Built, BuildRefusal}
 use Rattle.model.specs.declared.record.Standing.the-variants.{Own}
-use Rattle.model.specs.declared.answers.Wish.{Wish}
-use Rattle.model.specs.declared.answers.Closed.{Closed}
 use Rattle.model.specs.declared.answers.Closed.the-variants.{Kept}
-use Rattle.model.specs.declared.answers.CloseRefusal.{CloseRefusal}
-use Rattle.model.specs.declared.answers.Built.{Built}
-use Rattle.model.specs.declared.answers.BuildRefusal.{BuildRefusal}
 use Rattle.model.specs.declared.answers.BuildRefusal.the-variants.{By, Stopped}
+use Rattle.model.specs.Numbers.{number-of}
 use Rattle.model.specs.Contents.{Content, Pool, count, used, told}
 use Rattle.model.specs.Records.{Record}
-use Rattle.model.specs.Acts.{State, Outcome, goes, stops, then}
-use Rattle.model.specs.Order.{script, in-order}
+use Rattle.model.specs.Acts.{Outcome, goes, stops}
+use Rattle.model.specs.Order.{in-order}
 use Rattle.model.specs.Truth.{true-in}
 use Rattle.model.specs.Book.{has-record}
-use Rattle.model.specs.World.{World, lines}
+use Rattle.model.specs.Answers.{fault-refusal, unbuilt}
+use Rattle.model.specs.World.{World}
 use Rattle.model.specs.Begin.{Ticket, begin-refusal}
-use Rattle.model.specs.Step.{left, record-for}
 use Rattle.model.specs.Calls.{Did, on-close}
 use Rattle.model.specs.Past.{Past, after, found, fronts, One-policy}
 use Rattle.model.specs.Build.{Whole, whole, Builds, refused, once, twice}
@@ -63,17 +47,23 @@ Put-back-as-found =
     (w v : World) (p : Past w) (wish : Wish) (a : Result Closed CloseRefusal) → w .is-open ≡ true → Did (on-close None wish a) w v → (a ≡ Ok Kept → ⊥) →
     (v .files ≡ found p .files) × (v .pool ≡ found p .pool)
 
--- A build whose begin is accepted is kept exactly where script order does not stop, and then leaves the world as script order does; else it stops with the very stop of script order.
+-- A build whose begin is accepted is kept exactly where script order does not stop, and then leaves the world as script order does; else it stops with the very stop of script order, and is told by its number.
 abbrev pub Ends-as : Result Built BuildRefusal → World → Outcome → Type 0
 Ends-as (Ok b) v t = Agrees v t
 Ends-as (Err (By r)) v t = Unit {0}
 Ends-as (Err (Stopped y b)) v (goes s) = ⊥
-Ends-as (Err (Stopped y b)) v (stops s x) = y ≡ x
+Ends-as (Err (Stopped y b)) v (stops s x) = (y ≡ x) × (number-of (unbuilt (Stopped y b)) ≡ number-of (fault-refusal (x .fault)))
 
 abbrev pub Build-as-script-order : Type 0
 Build-as-script-order =
     (u v : World) → Past u → (cs : List Command) (m n k : ℕ) (a : Result Built BuildRefusal) → Builds cs m n u a k v →
     Ends-as a v (in-order cs (u .files) (u .pool))
+
+-- A build that stops leaves files and pool as it found them.
+abbrev pub Stopped-build-puts-back : Type 0
+Stopped-build-puts-back =
+    (u v : World) → Past u → (cs : List Command) (m n k : ℕ) (y : Stop) (b : Built) → Builds cs m n u (Err (Stopped y b)) k v →
+    (v .files ≡ u .files) × (v .pool ≡ u .pool)
 
 -- Where its first run stopped, its second begin is accepted.
 abbrev pub Begins-again : Type 0
@@ -97,12 +87,12 @@ No-line-starves-in-builds =
     (u v : World) (p : Past u) (cs : List Command) (m n k : ℕ) (a : Result Built BuildRefusal) (b : Builds cs m n u a k v) → Few-of p b
 
 -- Own records are true.
-abbrev pub Honest : Pool → List Record → Type 0
-Honest p [] = Unit {0}
-Honest p (r ∷ rs) = (r .standing ≡ Own → true-in p r ≡ true) × Honest p rs
+abbrev pub Own-true : Pool → List Record → Type 0
+Own-true p [] = Unit {0}
+Own-true p (r ∷ rs) = (r .standing ≡ Own → true-in p r ≡ true) × Own-true p rs
 
 abbrev pub Own-records-true : Type 0
-Own-records-true = (w : World) → Past w → Honest (w .pool) (w .records)
+Own-records-true = (w : World) → Past w → Own-true (w .pool) (w .records)
 
 -- The book has at most one record of a command, and no more records than places.
 abbrev pub Unique : List Record → Type 0
@@ -115,14 +105,3 @@ One-record-a-command = (w : World) → Past w → Unique (w .records) × (length
 -- The pool stays within its places and its room.
 abbrev pub Pool-in-room : Type 0
 Pool-in-room = (w : World) → Past w → (count (w .pool) ≤ w .pool .places) × (used (w .pool .contents) ≤ w .pool .room)
-
--- Script order of two scripts one after the other, the second numbered on, is script order of the first and then of the second.
-abbrev pub Script-order-appends : Type 0
-Script-order-appends = (l : ℕ) (cs ds : List Command) (s : State) → script l (cs ++ ds) s ≡ then (script l cs s) (script (l + length cs) ds)
-
--- The log has room for all that a step notes: one act, or those of the record that it skips by.
-abbrev pub Log-has-room : Type 0
-Log-has-room =
-    (w : World) → Past w → w .is-open ≡ true → w .notes .stop ≡ None → (l : ℕ) → left (lines w) (w .entries) l ≡ true →
-    (length (w .entries) + 1 ≤ w .log-places) ×
-    ((q : Record) → record-for w l ≡ Some q → length (w .entries) + (length (q .reads) + 1) ≤ w .log-places)

@@ -1,20 +1,6 @@
 -- STEP asks the policy once, and works on the line that it answers: a skip by an own record, or one act.
-use mathlib.Core.Path.{_≡_}
-use mathlib.Core.Bool.{Bool, true, false, cond, not, _&&_}
-use mathlib.Core.List.{List, [], _∷_}
-use Prim.Native.Nat.{ℕ, zero, suc}
-use lib.Dec.{eqb, ltb}
-use lib.ListN.{getD, set}
-use Rattle.std.specs.declared.option.Option.{Option}
-use Rattle.std.specs.declared.option.Option.the-variants.{Some, None}
-use Rattle.std.specs.declared.result.Result.{Result}
-use Rattle.std.specs.declared.result.Result.the-variants.{Ok, Err}
-use Rattle.model.specs.declared.command.Command.{Command}
+use Rattle.model.specs.Words.{_≡_, Bool, true, false, cond, not, _&&_, List, [], _∷_, ℕ, zero, suc, eqb, ltb, getD, set, Option, Some, None, Result, Ok, Err, Command, Entry, Stop, Stepped, StepRefusal}
 use Rattle.model.specs.declared.refusal.Refusal.the-variants.{LinesEnded, NoRun}
-use Rattle.model.specs.declared.run.Entry.{Entry}
-use Rattle.model.specs.declared.run.Stop.{Stop}
-use Rattle.model.specs.declared.answers.Stepped.{Stepped}
-use Rattle.model.specs.declared.answers.StepRefusal.{StepRefusal}
 use Rattle.model.specs.declared.answers.StepRefusal.the-variants.{By, Stopped}
 use Rattle.model.specs.Contents.{Pool, holds}
 use Rattle.model.specs.Policies.{Asked, Front, Answered}

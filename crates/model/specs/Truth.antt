@@ -1,9 +1,5 @@
 -- When a record is true.
-use mathlib.Core.Bool.{Bool, true, false, _&&_}
-use mathlib.Core.List.{List, [], _∷_, _++_}
-use Prim.Native.Nat.{ℕ}
-use lib.Dec.{eqb}
-use Rattle.std.specs.shelf.Text.{sameBytes}
+use Rattle.model.specs.Words.{Bool, false, _&&_, List, [], _∷_, _++_, ℕ, eqb, sameBytes}
 use Rattle.model.specs.Contents.{Content, Pool, holds, content}
 use Rattle.model.specs.Records.{Use, Record}
 use Rattle.model.specs.Commands.{Want, reads, writes, bad, want}

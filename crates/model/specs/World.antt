@@ -1,18 +1,6 @@
 -- The world that the calls change: the files, the pool, the log and the book.
-use mathlib.Core.Path.{_≡_}
-use mathlib.Core.Bool.{Bool, true, false}
-use mathlib.Core.List.{List, []}
-use Prim.Native.Nat.{ℕ}
-use lib.ListN.{length, replicate}
-use Rattle.std.specs.declared.option.Option.{Option}
-use Rattle.std.specs.declared.result.Result.{Result}
-use Rattle.std.specs.declared.result.Result.the-variants.{Err}
-use Rattle.model.specs.declared.command.Command.{Command}
-use Rattle.model.specs.declared.refusal.Refusal.{Refusal}
+use Rattle.model.specs.Words.{_≡_, Bool, true, false, List, [], ℕ, length, replicate, Option, Result, Err, Command, Refusal, Entry, LineState, Stop}
 use Rattle.model.specs.declared.refusal.Refusal.the-variants.{RunOpen}
-use Rattle.model.specs.declared.run.Entry.{Entry}
-use Rattle.model.specs.declared.run.LineState.{LineState}
-use Rattle.model.specs.declared.run.Stop.{Stop}
 use Rattle.model.specs.Contents.{Pool}
 use Rattle.model.specs.Acts.{State}
 use Rattle.model.specs.Records.{Record}

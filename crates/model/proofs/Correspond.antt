@@ -28,7 +28,7 @@ use Rattle.model.proofs.Entries.{event, trace, trace-more, Numbered, numbered-
 abbrev pub start : List Command → List ℕ → Pool → Start
 start cs fs p = record { lines = length cs; want = wants cs; width = length fs; files = λ f. told p (getD fs f 0); pool = p .contents; places = p .places; bytes = p .room }
 
-pub record Bridged (w : Start) (s : State) (t : Trace) : Type 0 where
+pub record Corresponds (w : Start) (s : State) (t : Trace) : Type 0 where
   pub traced : trace (s .pool) [] (s .entries) ≡ t
   pub pools : pooled w t ≡ s .pool .contents
   pub places : w .places ≡ s .pool .places
@@ -70,14 +70,14 @@ told-grown p q g (suc n) h =
     let j = grows-holds p q g (suc n) k in
     told-holds q (suc n) (j .0) ∙ ap Some (j .1) ∙ sym (told-holds p (suc n) k)
 
-known-is : (p : Pool) (n : ℕ) → n ≤ count p → known p n ≡ n
+pub known-is : (p : Pool) (n : ℕ) → n ≤ count p → known p n ≡ n
 known-is p n h = rw (le-leb n (count p) h)
 
 module _ (cs : List Command) (fs : List ℕ) (p₀ : Pool) where
   abbrev w : Start
   w = start cs fs p₀
 
-  module _ (s : State) (t : Trace) (b : Bridged w s t) where
+  module _ (s : State) (t : Trace) (b : Corresponds w s t) where
     pub seen-is : (l : ℕ) → seen (mine l t) ≡ has-read (s .pool) l (s .entries)
     seen-is l = ap (λ u. seen (mine l u)) (sym (b .traced)) ∙ seen-trace (s .pool) l [] (s .entries)
 
@@ -92,8 +92,8 @@ module _ (cs : List Command) (fs : List ℕ) (p₀ : Pool) where
     read-clash : (l f : ℕ) → clash (rd l f (content (s .pool) (getD (s .files) f 0))) t ≡ clashes (reads-it l f) (s .entries)
     read-clash l f = ap (clash (event (s .pool) (reads-it l f))) (sym (b .traced)) ∙ clash-trace (s .pool) (reads-it l f) [] (s .entries)
 
-    read-bridged : (l f : ℕ) → holds (s .pool) (getD (s .files) f 0) ≡ true → Bridged w (noted (reads-it l f) s) (rd l f (content (s .pool) (getD (s .files) f 0)) ∷ t)
-    read-bridged l f h = record {
+    read-corresponds : (l f : ℕ) → holds (s .pool) (getD (s .files) f 0) ≡ true → Corresponds w (noted (reads-it l f) s) (rd l f (content (s .pool) (getD (s .files) f 0)) ∷ t)
+    read-corresponds l f h = record {
       traced = trace-more (s .pool) [] (s .entries) (reads-it l f) ∙ ap (λ u. event (s .pool) (reads-it l f) ∷ u) (b .traced);
       pools = b .pools;
       places = b .places;
@@ -116,14 +116,14 @@ module _ (cs : List Command) (fs : List ℕ) (p₀ : Pool) where
       gave : Given (s .pool) x (suc n)
       gave = given-is (s .pool) x n g
 
-      doing-is : event p′ writes-it ≡ wr l f x
-      doing-is = ap (wr l f) (gave .is)
+      event-is : event p′ writes-it ≡ wr l f x
+      event-is = ap (wr l f) (gave .is)
 
       traced-is : trace p′ [] (s .entries) ≡ t
       traced-is = trace-grown (s .pool) p′ (grows-put (s .pool) x) [] (s .entries) (b .numbered) ∙ b .traced
 
       write-clash : clash (wr l f x) t ≡ clashes writes-it (s .entries)
-      write-clash = ap (λ u. clash u t) (sym doing-is) ∙ ap (clash (event p′ writes-it)) (sym traced-is) ∙ clash-trace p′ writes-it [] (s .entries)
+      write-clash = ap (λ u. clash u t) (sym event-is) ∙ ap (clash (event p′ writes-it)) (sym traced-is) ∙ clash-trace p′ writes-it [] (s .entries)
 
       holds-it : holds p′ (suc n) ≡ true
       holds-it = holds-from p′ (suc n) (gave .low) (gave .high)
@@ -142,9 +142,9 @@ module _ (cs : List Command) (fs : List ℕ) (p₀ : Pool) where
           by true = gave .high
           by false = omega (arith, b .filed k, grows-put (s .pool) x .more)
 
-      write-bridged : put (s .pool) x .contents ≡ Trace.add (s .pool .contents) x → Bridged w (written writes-it p′ s) (wr l f x ∷ t)
-      write-bridged add-is = record {
-        traced = trace-more p′ [] (s .entries) writes-it ∙ ap (λ a. a ∷ trace p′ [] (s .entries)) doing-is ∙ ap (λ u. wr l f x ∷ u) traced-is;
+      write-corresponds : put (s .pool) x .contents ≡ Trace.add (s .pool .contents) x → Corresponds w (written writes-it p′ s) (wr l f x ∷ t)
+      write-corresponds add-is = record {
+        traced = trace-more p′ [] (s .entries) writes-it ∙ ap (λ a. a ∷ trace p′ [] (s .entries)) event-is ∙ ap (λ u. wr l f x ∷ u) traced-is;
         pools = ap (λ q. Trace.add q x) (b .pools) ∙ sym add-is;
         places = b .places;
         bytes = b .bytes;
@@ -160,7 +160,7 @@ module _ (cs : List Command) (fs : List ℕ) (p₀ : Pool) where
       pub did : Event
       pub of : line did ≡ l
       pub ok : Ok w t did
-      pub next : Bridged w r (did ∷ t)
+      pub next : Corresponds w r (did ∷ t)
 
     abbrev xs-of : ℕ → List Content
     xs-of l = has-read (s .pool) l (s .entries)
@@ -188,7 +188,7 @@ module _ (cs : List Command) (fs : List ℕ) (p₀ : Pool) where
               clear = read-clash l f ∙ met-quiet (reads-it l f) (s .entries) m;
               sees = b .files f ∙ told-holds (s .pool) _ h;
             };
-            next = read-bridged l f h;
+            next = read-corresponds l f h;
           })
 
       write-acted :
@@ -212,7 +212,7 @@ module _ (cs : List Command) (fs : List ℕ) (p₀ : Pool) where
                   clear = write-clash l f x n g ∙ met-quiet (writes-it l f x n g) (s .entries) m;
                   sees = (small, ap (λ q. Trace.room w q x) (b .pools) ∙ room .0);
                 };
-                next = write-bridged l f x n g (room .1);
+                next = write-corresponds l f x n g (room .1);
               })
 
       pub acted : act (wants cs l) l s ≡ goes r → Acted l r
@@ -233,7 +233,7 @@ module _ (cs : List Command) (fs : List ℕ) (p₀ : Pool) where
       pub after : State
       pub does : act (wants cs (line a)) (line a) s ≡ goes after
       pub still : ended (line a) (s .entries) ≡ false
-      pub next : Bridged w after (a ∷ t)
+      pub next : Corresponds w after (a ∷ t)
 
     pub acts : (a : Event) → Ok w t a → Acts a
     acts (rd l f x) o =
@@ -248,7 +248,7 @@ module _ (cs : List Command) (fs : List ℕ) (p₀ : Pool) where
           after = noted (reads-it l f) s;
           does = rw (d, known-is (s .pool) (getD (s .files) f 0) (b .filed f), quiet, here, u);
           still = sym (ended-is l) ∙ o .still;
-          next = subst (λ y. Bridged w (noted (reads-it l f) s) (rd l f y ∷ t)) (known .1) (read-bridged l f (known .0));
+          next = subst (λ y. Corresponds w (noted (reads-it l f) s) (rd l f y ∷ t)) (known .1) (read-corresponds l f (known .0));
         }
     acts (wr l f x) o =
         let room = roomy w (s .pool) x (b .places) (b .bytes) (o .sees .0) (ap (λ q. Trace.room w q x) (sym (b .pools)) ∙ o .sees .1) in
@@ -264,5 +264,5 @@ module _ (cs : List Command) (fs : List ℕ) (p₀ : Pool) where
               ap (writing l s f (put (s .pool) x)) g ∙
               ap (λ m. tested l (written (writes-it l f x n g) (put (s .pool) x) s) m (goes (written (writes-it l f x n g) (put (s .pool) x) s))) quiet;
           still = sym (ended-is l) ∙ o .still;
-          next = write-bridged l f x n g (room .2);
+          next = write-corresponds l f x n g (room .2);
         }
