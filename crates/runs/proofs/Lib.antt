@@ -1,0 +1,9 @@
+pub mod Gives
+pub mod Grown
+pub mod Keeps
+pub mod Left
+pub mod Lines
+pub mod Made
+pub mod Opens
+pub mod Places
+pub mod Works

@@ -1,0 +1,4 @@
+pub mod States
+pub mod Inner
+pub mod Places
+pub mod Views

@@ -1,0 +1,8 @@
+//! The log of a run and the book of records, over lent memory, and what a step, a close and a begin do to them.
+mod book;
+mod log;
+mod run;
+mod states;
+
+pub use book::Book;
+pub use log::Log;
