@@ -1,0 +1,4 @@
+pub mod Pieces
+pub mod Stores
+pub mod Contents
+pub mod Sound
