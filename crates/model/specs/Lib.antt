@@ -3,3 +3,4 @@ pub mod Digits
 pub mod Contents
 pub mod Policies
 pub mod Records
+pub mod Traced

@@ -1,0 +1,12 @@
+mod Accepted
+mod Agains
+mod Backs
+mod Breaks
+mod Chains
+mod Entries
+mod Fields
+mod Forths
+mod Highs
+mod Knowns
+mod Pieces
+mod Whole
