@@ -1,12 +1,12 @@
-mod Accepted
+pub mod Accepted
 mod Agains
 mod Backs
 mod Breaks
-mod Chains
+pub mod Chains
 mod Entries
 mod Fields
-mod Forths
+pub mod Folds
+pub mod Forths
 mod Highs
-mod Knowns
 mod Pieces
 mod Whole

@@ -1,14 +1,17 @@
--- The loop that takes the contents, and the content of an index.
+-- The loop that takes the contents, the content of an index, and bytes that are compared.
 use Prim.Native.Nat.{ℕ, suc, _+_, _-_, _<_, _≤_}
 use denote.Ref.{RefT, now}
 use lib.Dec.{leb}
 use lib.ListN.{length, getD, set, take}
+use mathlib.Core.Bool.{true, false}
 use mathlib.Core.List.{List, [], _∷_, _++_, map, append-nil}
 use mathlib.Core.Logic.{_⊎_, inl, inr}
 use mathlib.Core.Path.{_≡_, sym, ap, _∙_}
 use native.Mathlib.Omega.{arith}
 use Rattle.std.proofs.shelf.Lists.{length-map, getD-map, take-more-set, map-push}
-use Rattle.std.proofs.shelf.Tests.{cond-true, cond-false, and-from, and-left, and-right, le-leb, lt-leb, cases-eq}
+use Rattle.std.proofs.shelf.Tests.{cond-true, cond-false, and-from, and-left, and-right, le-leb, lt-leb, cases-eq, cases-bool}
+use Rattle.std.proofs.shelf.Equals.{sameBytes-decides}
+use Rattle.std.specs.shelf.Text.{sameBytes}
 use Rattle.std.specs.declared.option.Option.the-variants.{Some, None}
 use Rattle.std.specs.declared.result.Result.the-variants.{Err}
 use Rattle.trace.proofs.Chains.{onto, onto-none, onto-more, onto-stop}
@@ -77,3 +80,10 @@ module _ (list : List Ref) (i : ℕ) where
   pub content-none : (i ≡ 0) ⊎ (length list < i) → None ≡ content-at (map now list) i
   content-none (inl e) = sym (cond-false _ _ _ (and-left (leb 1 i) (leb i (length (map now list))) (lt-leb 1 i (omega arith))))
   content-none (inr h) = let l = length-map list now in sym (cond-false _ _ _ (and-right (leb 1 i) (leb i (length (map now list))) (lt-leb i _ (omega arith))))
+
+pub other-length : (a b : List ℕ) → (length a ≡ length b → ⊥) → false ≡ sameBytes a b
+other-length a b ne =
+    elim (cases-bool (sameBytes a b)) [
+      | inl t ↦ absurd (ne (ap length (sameBytes-decides a b .0 t)))
+      | inr f ↦ sym f
+    ]

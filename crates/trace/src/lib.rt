@@ -11,7 +11,9 @@ mod uses;
 
 pub use file::Trace;
 pub use file::check;
+pub use kinds::files_ok;
 pub use kinds::kind_of;
+pub use known::same_command;
 pub use laws::only_lawful;
 pub use laws::read_back;
 pub use laws::written_back;

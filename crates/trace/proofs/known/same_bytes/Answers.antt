@@ -3,7 +3,7 @@ use mathlib.Core.Path.{_∙_}
 use Rattle.std.proofs.shelf.Equals.{matches-decides, sameBytes-decides}
 use Rattle.std.proofs.shelf.Tests.{ne-eqb}
 use Rattle.std.proofs.shelf.Ways.{same-from-decides}
-use Rattle.trace.proofs.Knowns.{other-length}
+use Rattle.trace.proofs.Pieces.{other-length}
 use Rattle.trace.proofs.known.same_bytes.Needs as need
 
 pub returns-then-a-b : need.returns-then-a-b

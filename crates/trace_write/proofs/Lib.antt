@@ -1,0 +1,10 @@
+mod Chosens
+mod Indices
+pub mod Lawfuls
+mod Lists
+mod Orders
+mod Outputs
+mod Selects
+mod Sizes
+mod Tables
+mod Writes

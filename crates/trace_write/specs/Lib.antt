@@ -1,0 +1,3 @@
+pub mod Saves
+pub mod Puts
+pub mod Rooms

@@ -1,0 +1,13 @@
+use model::Record;
+
+mod choices;
+
+pub use choices::choose;
+pub use choices::reads_of;
+
+/// The records that are saved.
+#[derive(Clone, Copy)]
+pub struct Chosen {
+    pub list: [Record; 256],
+    pub count: usize,
+}
