@@ -6,11 +6,12 @@ use mathlib.Core.Bool.{Bool, true, false, cond, not, _&&_}
 use mathlib.Core.List.{List, [], _∷_, _++_, append-nil}
 use mathlib.Core.Path.{_≡_, refl, sym, ap, _∙_}
 use native.Mathlib.Omega.{arith}
+use Rattle.std.proofs.shelf.Lists.{nil-from-length}
 use Rattle.std.proofs.shelf.Tests.{and-from, eqb-true}
 use Rattle.std.specs.Joined.{joined}
 use Rattle.std.specs.declared.option.Option.{Option}
 use Rattle.std.specs.declared.option.Option.the-variants.{Some, None}
-use Rattle.std.specs.declared.result.Result.the-variants.{Ok}
+use Rattle.std.specs.declared.result.Result.the-variants.{Ok, Err}
 use Rattle.model.specs.Contents.{Content, mem}
 use Rattle.model.specs.Numbers.{kind-number}
 use Rattle.model.specs.Records.{Record}
@@ -20,6 +21,7 @@ use Rattle.model.specs.declared.command.Kind.{Kind}
 use Rattle.model.specs.declared.command.Kind.the-variants.{Copy, Join, Gather, Choose, Tally, Check}
 use Rattle.model.specs.declared.record.Standing.the-variants.{Hint}
 use Rattle.model.specs.declared.record.Use.{Use}
+use Rattle.model.specs.declared.refusal.Refusal.the-variants.{TraceLength}
 use Rattle.trace.proofs.Backs.{went, held, rest-bytes, join, Backs, byte-back, number-back, count-back, file-back, piece-back, many-back, same-value, same-rest}
 use Rattle.trace.specs.Laws.{Bytes}
 use Rattle.trace.specs.Reads.{read, then, a-byte, a-number, a-count, a-piece, many, after, two-bytes}
@@ -135,8 +137,11 @@ record-back m s bs x cs ok e =
     )
 
 ended-back : (bs : List ℕ) (t u : Traced) → ended bs t ≡ Ok u → (bs ≡ []) × (t ≡ u)
-ended-back [] t u e = (refl, cc)
-ended-back (b ∷ bs) t u e = let z : _≡_ {A = ℕ} 0 1 = cc in absurd (omega arith)
+ended-back bs t u e = by (eqb (length bs) 0) refl e
+  where
+    by : (b : Bool) → eqb (length bs) 0 ≡ b → cond b (Ok t) (Err TraceLength) ≡ Ok u → (bs ≡ []) × (t ≡ u)
+    by true h f = (nil-from-length bs (eqb-true (length bs) 0 h), cc)
+    by false h f = let z : _≡_ {A = ℕ} 0 1 = cc in absurd (omega arith)
 
 pub accepted : (bs : List ℕ) (t : Traced) → Bytes bs → decoded bs ≡ Ok t → (encoded t ≡ bs) × (lawful t ≡ true)
 accepted bs t ok e =

@@ -2,23 +2,22 @@
 use Prim.Native.Nat.{ℕ}
 use lib.Dec.{eqb}
 use lib.ListN.{length}
-use mathlib.Core.Bool.{true, false}
+use mathlib.Core.Bool.{Bool, true, false, cond}
 use mathlib.Core.List.{List, [], _∷_}
 use mathlib.Core.Path.{_≡_, refl, sym, ap, _∙_}
 use native.Mathlib.Omega.{arith}
-use Rattle.std.proofs.shelf.Tests.{cond-true, cond-false, eqb-true, eq-eqb, ne-eqb}
 use Rattle.std.specs.declared.result.Result.{Result}
 use Rattle.std.specs.declared.result.Result.the-variants.{Ok, Err}
 use Rattle.model.specs.Contents.{Content}
 use Rattle.model.specs.Records.{Record}
 use Rattle.model.specs.Traced.{Traced}
 use Rattle.model.specs.declared.refusal.Refusal.{Refusal}
-use Rattle.model.specs.declared.refusal.Refusal.the-variants.{TraceLength, TraceRule}
+use Rattle.model.specs.declared.refusal.Refusal.the-variants.{TraceLength}
 use Rattle.trace.proofs.Agains.{all-again}
 use Rattle.trace.proofs.Backs.{same-value, same-rest}
 use Rattle.trace.specs.Format.{start, raised, ended, finished, all-records, the-contents, the-records, with-contents, decoded}
-use Rattle.trace.specs.Reads.{Reading, read, then, a-count, readable}
-use Rattle.trace.specs.Told.{gathered, high-of, again}
+use Rattle.trace.specs.Reads.{Reading, read, then, rule, a-count, readable}
+use Rattle.trace.specs.Told.{gathered, high-of, again, at-end}
 
 -- what was gathered from
 pub record From {X Y : Type 0} (f : X → Y) (r : Reading X) (y : Y) (bs : List ℕ) : Type 0 where
@@ -39,13 +38,20 @@ err-gathered : {X Y Z : Type 0} (f : X → Y) (r : Reading X) (more : X → List
 err-gathered f (Ok q) more e h = let z : _≡_ {A = ℕ} 0 1 = cc in absurd (omega arith)
 err-gathered f (Err x) more e h = cc
 
-ended-some : {Y : Type 0} (bs : List ℕ) (t : Y) → false ≡ eqb (length bs) 0 → Err TraceLength ≡ ended bs t
-ended-some [] t e = let z : _≡_ {A = ℕ} 0 1 = cc in absurd (omega arith)
-ended-some (b ∷ bs) t e = refl
+-- a file ends well with what was read
+gathered-end : {Y : Type 0} → Result (Unit {0}) Refusal → Y → Result Y Refusal
+gathered-end (Ok u) y = Ok y
+gathered-end (Err e) y = Err e
 
-ended-none : {Y : Type 0} (bs : List ℕ) (t : Y) → true ≡ eqb (length bs) 0 → Ok t ≡ ended bs t
-ended-none [] t e = refl
-ended-none (b ∷ bs) t e = let z = eqb-true (length (b ∷ bs)) 0 (sym e) in absurd (omega arith)
+-- the end of a file, by the highest index and the count of contents
+at-end-is : {Y : Type 0} (h n : ℕ) (bs : List ℕ) (y : Y) → gathered-end (at-end h n bs) y ≡ rule (eqb h n) (ended bs y)
+unfolding gathered-end
+at-end-is h n bs y = by (eqb h n) (eqb (length bs) 0)
+  where
+    by : (a b : Bool) → gathered-end (rule a (cond b (Ok tt) (Err TraceLength))) y ≡ rule a (cond b (Ok y) (Err TraceLength))
+    by true true = refl
+    by true false = refl
+    by false b = refl
 
 module _ (bs : List ℕ) (cs : List Content) (n : ℕ) (ds : List ℕ) (first : read cs ds ≡ the-contents bs) (count : length cs ≡ n) where
   after-contents : then (the-records n ds) (finished cs) ≡ decoded bs
@@ -68,24 +74,19 @@ module _ (bs : List ℕ) (cs : List Content) (n : ℕ) (ds : List ℕ) (first : 
       abbrev trace : Traced
       trace = record { contents = cs; records = rs .value }
 
-      ends : finished cs (rs .value) gs ≡ decoded bs
-      ends = ap (λ r. then r (finished cs)) (sym (rs .was)) ∙ by-parts
+      ends : gathered-end (at-end h n gs) trace ≡ decoded bs
+      ends =
+          at-end-is h n gs trace
+          ∙ ap (λ k. rule (eqb k n) (ended gs trace)) (rs .same)
+          ∙ ap (λ k. rule (eqb (high-of (rs .value)) k) (ended gs trace)) (sym count)
+          ∙ ap (λ r. then r (finished cs)) (sym (rs .was))
+          ∙ by-parts
 
-      pub not-used : (h ≡ n → ⊥) → Err TraceRule ≡ decoded bs
-      not-used ne =
-          sym (cond-false (eqb (high-of (rs .value)) (length cs)) (ended gs trace) (Err TraceRule) (ne-eqb _ _ (λ e. ne (rs .same ∙ e ∙ count))))
-          ∙ ends
+      pub bad-end : (e : Refusal) → Err e ≡ at-end h n gs → Err e ≡ decoded bs
+      unfolding gathered-end
+      bad-end e f = ap (λ r. gathered-end r trace) f ∙ ends
 
-      all-used : h ≡ n → ended gs trace ≡ decoded bs
-      all-used e =
-          sym (cond-true (eqb (high-of (rs .value)) (length cs)) (ended gs trace) (Err TraceRule) (eq-eqb _ _ (sym (rs .same) ∙ e ∙ sym count)))
-          ∙ ends
-
-      pub some-left : h ≡ n → false ≡ eqb (length gs) 0 → Err TraceLength ≡ decoded bs
-      some-left e f = ended-some gs trace f ∙ all-used e
-
-      pub none-left : h ≡ n → true ≡ eqb (length gs) 0 → _≡_ {A = Result Traced Refusal} (Ok (record { contents = cs; records = readable (again n) raised m 0 fs })) (decoded bs)
-      none-left e f =
-          ap (λ l. Ok (record { contents = cs; records = l })) (all-again n m start fs (rs .value) gs (rs .was))
-          ∙ ended-none gs trace f
-          ∙ all-used e
+      pub good-end : Ok tt ≡ at-end h n gs → _≡_ {A = Result Traced Refusal} (Ok (record { contents = cs; records = readable (again n) raised m 0 fs })) (decoded bs)
+      unfolding gathered-end
+      good-end f =
+          ap (λ l. Ok (record { contents = cs; records = l })) (all-again n m start fs (rs .value) gs (rs .was)) ∙ ap (λ r. gathered-end r trace) f ∙ ends

@@ -152,8 +152,7 @@ the-records n bs = then (a-count 256 bs) (all-records n)
 -- THE FILE: every content is used, and no bytes are left
 
 abbrev pub ended : {Y : Type 0} → List ℕ → Y → Result Y Refusal
-ended [] t = Ok t
-ended (b ∷ bs) t = Err TraceLength
+ended bs t = cond (eqb (length bs) 0) (Ok t) (Err TraceLength)
 
 abbrev pub finished : List Content → List Record → List ℕ → Result Traced Refusal
 finished cs rs bs = rule (eqb (after noted start rs .high) (length cs)) (ended bs (record { contents = cs; records = rs }))

@@ -1,7 +1,7 @@
 -- What the code's answers tell.
 use Prim.Native.Nat.{ℕ, _-_}
 use denote.Ref.{now}
-use lib.Dec.{leb}
+use lib.Dec.{eqb, leb}
 use lib.ListN.{length, getD, take}
 use mathlib.Core.Bool.{cond, _&&_}
 use mathlib.Core.List.{List, [], _∷_, map}
@@ -15,8 +15,8 @@ use Rattle.model.specs.Traced.{Traced}
 use Rattle.model.specs.declared.command.Command.{Command}
 use Rattle.model.specs.declared.record.Use.{Use}
 use Rattle.model.specs.declared.refusal.Refusal.{Refusal}
-use Rattle.trace.specs.Format.{Before, start, noted, raised, a-record}
-use Rattle.trace.specs.Reads.{Reading, read, then, after, readable}
+use Rattle.trace.specs.Format.{Before, start, noted, raised, a-record, ended}
+use Rattle.trace.specs.Reads.{Reading, read, then, rule, after, readable}
 use Rattle.trace.specs.declared.contents.Contents.{Contents}
 use Rattle.trace.specs.declared.file.Trace.{Trace}
 use Rattle.trace.specs.declared.input.Input.{Input}
@@ -74,6 +74,10 @@ meant t =
       contents = listed (t .contents);
       records = readable (again (t .contents .count)) raised (t .records) 0 (now (t .rest));
     }
+
+-- whether a file may end, by the highest index and the count of contents
+abbrev pub at-end : ℕ → ℕ → List ℕ → Result (Unit {0}) Refusal
+at-end high n bs = rule (eqb high n) (ended bs tt)
 
 -- what checking tells
 abbrev pub checked : Result Trace Refusal → Result Traced Refusal

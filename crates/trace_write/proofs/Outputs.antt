@@ -1,26 +1,20 @@
--- The whole of a save.
-use Prim.Native.Nat.{ℕ, _+_, _<_, _≤_}
-use lib.Dec.{leb}
+-- The file as four writes: how long it is, and that they give it.
+use Prim.Native.Nat.{ℕ, _+_, _≤_}
 use lib.ListN.{length}
 use mathlib.Core.List.{List, _++_, map}
 use mathlib.Core.Path.{_≡_, sym, ap, _∙_}
 use native.Mathlib.Omega.{arith}
 use Rattle.std.proofs.shelf.Lists.{length-append, length-map}
-use Rattle.std.proofs.shelf.Tests.{cond-true, cond-false, le-leb, lt-leb}
 use Rattle.std.specs.Joined.{joined}
-use Rattle.std.specs.declared.result.Result.{Result}
-use Rattle.std.specs.declared.result.Result.the-variants.{Ok, Err}
 use Rattle.model.specs.Contents.{Pool, content}
 use Rattle.model.specs.Records.{said}
 use Rattle.model.specs.Traced.{Traced}
 use Rattle.model.specs.declared.record.Record as Code
-use Rattle.model.specs.declared.refusal.Refusal.{Refusal}
-use Rattle.model.specs.declared.refusal.Refusal.the-variants.{SaveBufferShort}
 use Rattle.trace.specs.Format.{content-bytes, record-bytes, encoded}
 use Rattle.trace.specs.Reads.{two-bytes}
 use Rattle.trace_write.proofs.Sizes.{joined-map}
 use Rattle.trace_write.proofs.Writes.{two-writes}
-use Rattle.trace_write.specs.Puts.{put, saved, after-save, content-of, record-of}
+use Rattle.trace_write.specs.Puts.{put, content-of, record-of}
 use Rattle.trace_write.specs.Saves.{indexed, traced}
 
 module _ (p : Pool) (ns : List ℕ) (rs : List Code.Record) where
@@ -55,20 +49,8 @@ module _ (p : Pool) (ns : List ℕ) (rs : List Code.Record) where
   encoded-size = ap length (sym encoded-is) ∙ size
 
   module _ (bs : List ℕ) where
-    pub none-saved : length bs < length (encoded trace) → (Err SaveBufferShort ≡ saved trace bs) × (bs ≡ after-save trace bs)
-    none-saved h =
-        let e = lt-leb (length (encoded trace)) (length bs) h in
-        (sym (cond-false (leb (length (encoded trace)) (length bs)) _ _ e), sym (cond-false (leb (length (encoded trace)) (length bs)) _ _ e))
-
-    pub all-saved : (n : ℕ) (ds : List ℕ) → length (encoded trace) ≤ length bs → n ≡ length (encoded trace) → ds ≡ put 0 whole bs → (_≡_ {A = Result ℕ Refusal} (Ok n) (saved trace bs)) × (ds ≡ after-save trace bs)
-    all-saved n ds h e f =
-        let t = le-leb (length (encoded trace)) (length bs) h in (
-          ap Ok e ∙ sym (cond-true (leb (length (encoded trace)) (length bs)) _ _ t),
-          f ∙ ap (λ l. put 0 l bs) encoded-is ∙ sym (cond-true (leb (length (encoded trace)) (length bs)) _ _ t),
-        )
-
     -- the four writes
-    pub four-writes : (a b c : ℕ) (b1 b2 b3 b4 : List ℕ) → 4 + length (joined (content-of p) ns) + length (joined (record-of ns) rs) ≤ length bs → b1 ≡ put 0 (two-bytes (length ns)) bs → a ≡ 2 → b2 ≡ put a (joined (content-of p) ns) b1 → b ≡ a + length (joined (content-of p) ns) → b3 ≡ put b (two-bytes (length rs)) b2 → c ≡ b + 2 → b4 ≡ put c (joined (record-of ns) rs) b3 → b4 ≡ put 0 whole bs
+    pub four-writes : (a b c : ℕ) (b1 b2 b3 b4 : List ℕ) → 4 + length (joined (content-of p) ns) + length (joined (record-of ns) rs) ≤ length bs → b1 ≡ put 0 (two-bytes (length ns)) bs → a ≡ 2 → b2 ≡ put a (joined (content-of p) ns) b1 → b ≡ a + length (joined (content-of p) ns) → b3 ≡ put b (two-bytes (length rs)) b2 → c ≡ b + 2 → b4 ≡ put c (joined (record-of ns) rs) b3 → b4 ≡ put 0 (encoded trace) bs
     four-writes a b c b1 b2 b3 b4 h e1 f1 e2 f2 e3 f3 e4 =
         let s = size in
         let l = length-append (two-bytes (length ns)) (joined (content-of p) ns) in
@@ -76,3 +58,4 @@ module _ (p : Pool) (ns : List ℕ) (rs : List Code.Record) where
         let one = two-writes 0 a (two-bytes (length ns)) (joined (content-of p) ns) bs b1 b2 (omega arith) e1 (omega arith) e2 in
         let two = two-writes 0 b contents-part (two-bytes (length rs)) bs b2 b3 (omega arith) one (omega arith) e3 in
         two-writes 0 c (contents-part ++ two-bytes (length rs)) (joined (record-of ns) rs) bs b3 b4 (omega arith) two (omega arith) e4
+        ∙ ap (λ l. put 0 l bs) encoded-is

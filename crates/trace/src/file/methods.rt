@@ -3,32 +3,49 @@ ghost use mathlib.Core.Path.{_≡_};
 ghost use mathlib.Core.List.{map};
 ghost use Rattle.std.specs.Options.{mapped};
 ghost use Rattle.trace.specs.Format.{decoded};
-ghost use Rattle.trace.specs.Told.{checked, meant, coming, content-at};
+ghost use Rattle.trace.specs.Told.{left, at-end, checked, meant, coming, content-at};
 use crate::file::Trace;
 use crate::input::Input;
 use crate::records::Records;
 use model::Refusal;
+
+/// Every content has been used, and no bytes are left.
+fn at_end(high: u16, contents: usize, rest: &[u8]) -> Result<(), Refusal>
+    ensures { λ r. ⌜ r ≡ at-end high contents (now (rest .entry)) ⌝ }
+{
+    if high as usize != contents {
+        return Err(Refusal::TraceRule);
+    }
+    if !rest.is_empty() {
+        return Err(Refusal::TraceLength);
+    }
+    Ok(())
+}
+
+impl<'t> Input<'t> {
+    /// The two sections, and nothing after them.
+    fn trace(&mut self) -> Result<Trace<'t>, Refusal>
+        ensures { λ r. ⌜ checked r ≡ decoded (left (now (self .entry))) ⌝ }
+    {
+        let contents = self.contents()?;
+        let records = self.count(256)?;
+        let rest = self.rest;
+        let high = self.records(records, contents.count)?;
+        at_end(high, contents.count, self.rest)?;
+        Ok(Trace {
+            contents,
+            records,
+            rest,
+        })
+    }
+}
 
 /// Checks the bytes of a trace file from front to back.
 pub fn check(bytes: &[u8]) -> Result<Trace<'_>, Refusal>
     ensures { λ r. ⌜ checked r ≡ decoded (now (bytes .entry)) ⌝ }
 {
     let mut input = Input { rest: bytes };
-    let contents = input.contents()?;
-    let records = input.count(256)?;
-    let rest = input.rest;
-    let high = input.records(records, contents.count)?;
-    if high as usize != contents.count {
-        return Err(Refusal::TraceRule);
-    }
-    if !input.rest.is_empty() {
-        return Err(Refusal::TraceLength);
-    }
-    Ok(Trace {
-        contents,
-        records,
-        rest,
-    })
+    input.trace()
 }
 
 /// The content of an index in a list; indices count from 1.

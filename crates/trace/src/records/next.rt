@@ -15,6 +15,15 @@ impl<'t> Records<'t> {
         if self.left == 0 {
             return None;
         }
+        self.read()
+    }
+
+    /// The next record, where the file has one more.
+    fn read(&mut self) -> Option<Record>
+        requires { ⌜ (now self .left ≡ 0 → ⊥) ⌝ }
+        ensures value { λ r. ⌜ mapped said r ≡ first (coming (now (self .entry))) ⌝ }
+        ensures after { λ _. ⌜ coming (now (self .exit)) ≡ others (coming (now (self .entry))) ⌝ }
+    {
         let mut input = Input { rest: self.rest };
         match input.record(self.contents, &[], self.high) {
             Ok(next) => {

@@ -6,7 +6,7 @@ use Rattle.pool.specs.Contents.{meant}
 use Rattle.pool.proofs.Sounds.{sound}
 use Rattle.trace_write.proofs.Lawfuls.{saved-back}
 use Rattle.trace_write.proofs.Tables.{kept-named, kept-few, used-few, tables-are, accepted}
-use Rattle.trace_write.proofs.saves.whole.save.Needs as need
+use Rattle.trace_write.proofs.saves.whole.save_chosen.Needs as need
 use Rattle.trace_write.specs.Puts.{saved, after-save}
 use Rattle.trace_write.specs.Saves.{to-save}
 

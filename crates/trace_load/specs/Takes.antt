@@ -1,0 +1,30 @@
+-- Taking contents into a pool, and records into a book as hints: all or nothing.
+use Prim.Native.Nat.{ℕ}
+use lib.Dec.{leb}
+use lib.ListN.{length}
+use mathlib.Core.Bool.{cond}
+use mathlib.Core.List.{List}
+use Rattle.std.specs.declared.option.Option.{Option}
+use Rattle.std.specs.declared.option.Option.the-variants.{Some, None}
+use Rattle.std.specs.declared.result.Result.{Result}
+use Rattle.std.specs.declared.result.Result.the-variants.{Ok, Err}
+use Rattle.model.specs.Contents.{Pool}
+use Rattle.model.specs.Records.{Record}
+use Rattle.model.specs.declared.refusal.Refusal.{Refusal}
+use Rattle.model.specs.declared.refusal.Refusal.the-variants.{NoRoomToLoad}
+
+-- what putting contents tells, and the pool after it
+abbrev pub put-told : Option Pool → Result (Unit {0}) Refusal
+put-told (Some q) = Ok tt
+put-told None = Err NoRoomToLoad
+
+abbrev pub put-after : Option Pool → Pool → Pool
+put-after (Some q) p = q
+put-after None p = p
+
+-- what taking hints tells, and the book after it, by the records that it is to have and its places
+abbrev pub hints-told : List Record → ℕ → Result (Unit {0}) Refusal
+hints-told rs places = cond (leb (length rs) places) (Ok tt) (Err NoRoomToLoad)
+
+abbrev pub hints-after : List Record → ℕ → List Record → List Record
+hints-after rs places old = cond (leb (length rs) places) rs old
