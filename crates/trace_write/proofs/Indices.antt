@@ -41,7 +41,7 @@ longer o (m ∷ ms) =
     let b = longer (listed o m) ms in
     record { more = a .more ++ b .more; same = b .same ∙ ap (λ l. l ++ b .more) (a .same) ∙ append-assoc o (a .more) (b .more) }
 
-place-front : (n : ℕ) (o xs : List ℕ) → place n o ≤ length o → place n (o ++ xs) ≡ place n o
+pub place-front : (n : ℕ) (o xs : List ℕ) → place n o ≤ length o → place n (o ++ xs) ≡ place n o
 place-front n [] xs h = absurd (omega arith)
 place-front n (m ∷ o) xs h =
     elim (cases-eq n m) [
@@ -50,7 +50,7 @@ place-front n (m ∷ o) xs h =
           place-other n m (o ++ xs) ne ∙ ap suc (place-front n o xs (let a = place-other n m o ne in omega arith)) ∙ sym (place-other n m o ne)
     ]
 
-place-end : (n : ℕ) (o xs : List ℕ) → length o < place n o → place n (o ++ n ∷ xs) ≡ length o + 1
+pub place-end : (n : ℕ) (o xs : List ℕ) → length o < place n o → place n (o ++ n ∷ xs) ≡ length o + 1
 place-end n [] xs h = place-same n n xs refl
 place-end n (m ∷ o) xs h =
     elim (cases-eq n m) [

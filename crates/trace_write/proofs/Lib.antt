@@ -4,6 +4,7 @@ pub mod Lawfuls
 mod Lists
 mod Orders
 mod Outputs
+mod Rounds
 mod Selects
 mod Sizes
 mod Tables

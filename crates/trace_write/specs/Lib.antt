@@ -1,3 +1,4 @@
 pub mod Saves
 pub mod Puts
 pub mod Rooms
+pub mod Laws
