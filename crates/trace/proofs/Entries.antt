@@ -1,18 +1,24 @@
--- The loop that takes the records.
+-- The loop that takes the records, and what is asked of some records.
 use Prim.Native.Nat.{ℕ, suc, _+_, _-_, _<_, _≤_}
 use lib.ListN.{length, set, take}
-use mathlib.Core.List.{List, [], _∷_, _++_}
+use mathlib.Core.Bool.{Bool}
+use mathlib.Core.List.{List, [], _∷_, _++_, map}
 use mathlib.Core.Path.{_≡_, refl, sym, ap, _∙_}
 use native.Mathlib.Omega.{arith}
 use Rattle.std.proofs.shelf.Lists.{length-set, take-more-set}
 use Rattle.std.specs.declared.result.Result.the-variants.{Err}
-use Rattle.model.specs.Records.{Record}
+use Rattle.model.specs.Records.{Record, said}
 use Rattle.model.specs.declared.command.Command.{Command}
+use Rattle.model.specs.declared.record.Record as Code
 use Rattle.model.specs.declared.refusal.Refusal.{Refusal}
 use Rattle.trace.proofs.Chains.{gathered-more, gathered-stop}
-use Rattle.trace.specs.Format.{Before, start, noted, raised, a-record}
+use Rattle.trace.specs.Format.{Before, start, noted, raised, a-record, known-command}
 use Rattle.trace.specs.Reads.{Reading, read, many, after}
 use Rattle.trace.specs.Told.{gathered, high-of, met}
+
+-- a record of the command is there
+abbrev pub has : Command → List Code.Record → Bool
+has c rs = known-command c (map (λ s. s .command) (map said rs))
 
 -- the highest index after some more records
 abbrev pub high-from : Before → List Record → ℕ

@@ -6,6 +6,7 @@ mod input;
 mod kinds;
 mod known;
 mod laws;
+mod recorded;
 mod records;
 mod uses;
 
@@ -17,4 +18,6 @@ pub use known::same_command;
 pub use laws::only_lawful;
 pub use laws::read_back;
 pub use laws::written_back;
+pub use recorded::has_command;
+pub use recorded::reads_of;
 pub use records::Records;

@@ -7,12 +7,12 @@ ghost use Rattle.std.specs.Vec.{made};
 use model::Command;
 use model::Kind;
 use model::Record;
-use model::Use;
 use std::io;
 use std::io::Read;
 use trace::Records;
 use trace::Trace;
 use trace::check;
+use trace::reads_of;
 
 /// The most bytes that a file can have that is saved or loaded.
 const MOST: usize = 82180;
@@ -45,17 +45,6 @@ fn word(kind: Kind) -> &'static str {
         Kind::Choose => "choose",
         Kind::Tally => "tally",
         Kind::Check => "check",
-    }
-}
-
-/// The reads of a record.
-fn reads_of(record: &Record) -> &[Use] {
-    let count = record.count;
-    let list = &record.reads[..];
-    if count < 16 {
-        &list[0..count as usize]
-    } else {
-        list
     }
 }
 

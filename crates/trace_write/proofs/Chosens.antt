@@ -10,7 +10,6 @@ use Rattle.std.proofs.shelf.Lists.{length-set, length-map, length-take-le, take
 use Rattle.std.proofs.shelf.Tests.{and-parts, and-from, and-left, and-right, ltb-true}
 use Rattle.model.specs.Contents.{Pool}
 use Rattle.model.specs.Records.{Record, said}
-use Rattle.model.specs.declared.command.Command.{Command}
 use Rattle.model.specs.declared.command.Kind.the-variants.{Copy}
 use Rattle.model.specs.declared.record.Record as Code
 use Rattle.model.specs.declared.record.Standing.the-variants.{Hint}
@@ -28,10 +27,6 @@ no-record =
       write = record { file = 0; number = 0 };
       standing = Hint;
     }
-
--- a record of the command is there
-abbrev pub has : Command → List Code.Record → Bool
-has c rs = known-command c (map (λ s. s .command) (map said rs))
 
 -- the records chosen so far
 abbrev pub front : ℕ → List Code.Record → List Record

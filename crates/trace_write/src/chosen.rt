@@ -3,7 +3,6 @@ use model::Record;
 mod choices;
 
 pub use choices::choose;
-pub use choices::reads_of;
 
 /// The records that are saved.
 #[derive(Clone, Copy)]

@@ -2,10 +2,8 @@ ghost use mathlib.Core.Bool.{_&&_};
 ghost use mathlib.Core.List.{map};
 ghost use mathlib.Core.Path.{_≡_};
 ghost use Prim.Native.Nat.{_≤_};
-ghost use lib.ListN.{length};
 ghost use Rattle.model.specs.Records.{said};
 ghost use Rattle.pool.specs.Contents.{meant};
-ghost use Rattle.trace.specs.Format.{known-command};
 ghost use Rattle.trace_write.specs.Puts.{records-in};
 ghost use Rattle.trace_write.specs.Saves.{unstruck, every, use-savable, savable, is-new, chosen};
 use crate::chosen::Chosen;
@@ -16,21 +14,8 @@ use model::Standing;
 use model::Use;
 use pool::Pool;
 use trace::files_ok;
-use trace::same_command;
-
-/// The reads of a record.
-pub fn reads_of(rec: &Record) -> &[Use]
-    ensures value { λ r. ⌜ now r ≡ said (now (rec .entry)) .reads ⌝ }
-    ensures few { λ r. ⌜ length (now r) ≤ 16 ⌝ }
-{
-    let count = rec.count;
-    let list = &rec.reads[..];
-    if count < 16 {
-        &list[0..count as usize]
-    } else {
-        list
-    }
-}
+use trace::has_command;
+use trace::reads_of;
 
 fn unstruck(standing: Standing) -> bool
     ensures { λ r. ⌜ r ≡ unstruck standing ⌝ }
@@ -71,18 +56,6 @@ fn is_savable(pool: &Pool, rec: &Record) -> bool
     let read = uses_savable(pool, reads);
     let written = use_savable(pool, rec.write);
     standing && files && 1 <= count && count <= 16 && read && written
-}
-
-/// A record of the command is among others.
-fn has_command(list: &[Record], command: Command) -> bool
-    ensures { λ r. ⌜ r ≡ known-command command (map (λ s. s .command) (map said (now (list .entry)))) ⌝ }
-{
-    for s in list {
-        if same_command(command, s.command) {
-            return true;
-        }
-    }
-    false
 }
 
 /// No record of its command has been chosen, and there is room for one more.

@@ -9,10 +9,10 @@ ghost use Rattle.trace.specs.Reads.{after};
 ghost use Rattle.trace_write.specs.Puts.{numbers-of, number-of-use};
 ghost use Rattle.trace_write.specs.Saves.{place as place-of, listed, numbers-in, order as order-in};
 ghost use Rattle.trace_write.specs.Rooms.{Number, Named, Room};
-use crate::chosen::reads_of;
 use crate::order::Order;
 use model::Record;
 use model::Use;
+use trace::reads_of;
 
 /// The place of a number in a list, counted from 1; one past the last where it is not there.
 pub fn place(list: &[u16], number: u16) -> usize

@@ -4,7 +4,6 @@ ghost use lib.ListN.{length};
 ghost use Rattle.std.specs.Joined.{joined};
 ghost use Rattle.pool.specs.Contents.{meant};
 ghost use Rattle.trace_write.specs.Puts.{put, content-of, record-of};
-use crate::chosen::reads_of;
 use crate::saves::pieces::put_byte;
 use crate::saves::pieces::put_command;
 use crate::saves::pieces::put_content;
@@ -12,6 +11,7 @@ use crate::saves::pieces::put_use;
 use crate::saves::pieces::put_uses;
 use model::Record;
 use pool::Pool;
+use trace::reads_of;
 
 /// Writes the contents of some numbers.
 pub fn put_contents(out: &mut [u8], start: usize, pool: &Pool, numbers: &[u16]) -> usize

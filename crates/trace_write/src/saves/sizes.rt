@@ -4,9 +4,9 @@ ghost use lib.ListN.{length};
 ghost use Rattle.std.specs.Joined.{joined};
 ghost use Rattle.pool.specs.Contents.{meant};
 ghost use Rattle.trace_write.specs.Puts.{content-of, record-of};
-use crate::chosen::reads_of;
 use model::Record;
 use pool::Pool;
+use trace::reads_of;
 
 /// How many bytes the contents take.
 pub fn contents_size(pool: &Pool, numbers: &[u16]) -> usize

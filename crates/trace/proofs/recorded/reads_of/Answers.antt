@@ -4,7 +4,7 @@ use lib.ListN.{length, take}
 use mathlib.Core.Path.{_≡_, sym}
 use native.Mathlib.Omega.{arith}
 use Rattle.std.proofs.shelf.Lists.{take-all}
-use Rattle.trace_write.proofs.chosen.choices.reads_of.Needs as need
+use Rattle.trace.proofs.recorded.reads_of.Needs as need
 
 pub returns-else-count-lt16 : need.returns-else-count-lt16
 returns-else-count-lt16 c =

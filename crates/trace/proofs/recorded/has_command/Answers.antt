@@ -3,9 +3,9 @@ use mathlib.Core.Bool.{true, false, _||_}
 use mathlib.Core.Path.{refl}
 use native.Mathlib.Omega.{arith}
 use Rattle.model.specs.Traced.{same-command}
 use Rattle.trace.proofs.Folds.{turn, end}
-use Rattle.trace_write.proofs.Chosens.{has}
-use Rattle.trace_write.proofs.chosen.choices.has_command.Needs as need
+use Rattle.trace.proofs.Entries.{has}
+use Rattle.trace.proofs.recorded.has_command.Needs as need
 
 pub returns-then-same-command : need.returns-then-same-command
 returns-then-same-command c =

@@ -1,0 +1,36 @@
+ghost use mathlib.Core.List.{map};
+ghost use mathlib.Core.Path.{_≡_};
+ghost use Prim.Native.Nat.{_≤_};
+ghost use lib.ListN.{length};
+ghost use Rattle.model.specs.Records.{said};
+ghost use Rattle.trace.specs.Format.{known-command};
+use crate::known::same_command;
+use model::Command;
+use model::Record;
+use model::Use;
+
+/// The reads of a record.
+pub fn reads_of(rec: &Record) -> &[Use]
+    ensures value { λ r. ⌜ now r ≡ said (now (rec .entry)) .reads ⌝ }
+    ensures few { λ r. ⌜ length (now r) ≤ 16 ⌝ }
+{
+    let count = rec.count;
+    let list = &rec.reads[..];
+    if count < 16 {
+        &list[0..count as usize]
+    } else {
+        list
+    }
+}
+
+/// A record of the command is among others.
+pub fn has_command(list: &[Record], command: Command) -> bool
+    ensures { λ r. ⌜ r ≡ known-command command (map (λ s. s .command) (map said (now (list .entry)))) ⌝ }
+{
+    for s in list {
+        if same_command(command, s.command) {
+            return true;
+        }
+    }
+    false
+}
