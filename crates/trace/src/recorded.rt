@@ -23,8 +23,8 @@ pub fn reads_of(rec: &Record) -> &[Use]
     }
 }
 
-/// A record of the command is among others.
-pub fn has_command(list: &[Record], command: Command) -> bool
+/// One of the records has the command.
+fn some_has(list: &[Record], command: Command) -> bool
     ensures { λ r. ⌜ r ≡ known-command command (map (λ s. s .command) (map said (now (list .entry)))) ⌝ }
 {
     for s in list {
@@ -33,4 +33,11 @@ pub fn has_command(list: &[Record], command: Command) -> bool
         }
     }
     false
+}
+
+/// A record of the command is among others.
+pub fn has_command(list: &[Record], command: Command) -> bool
+    ensures { λ r. ⌜ r ≡ known-command command (map (λ s. s .command) (map said (now (list .entry)))) ⌝ }
+{
+    some_has(list, command)
 }

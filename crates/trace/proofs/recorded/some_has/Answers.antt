@@ -5,7 +5,7 @@ use native.Mathlib.Omega.{arith}
 use Rattle.model.specs.Traced.{same-command}
 use Rattle.trace.proofs.Folds.{turn, end}
 use Rattle.trace.proofs.Entries.{has}
-use Rattle.trace.proofs.recorded.has_command.Needs as need
+use Rattle.trace.proofs.recorded.some_has.Needs as need
 
 pub returns-then-same-command : need.returns-then-same-command
 returns-then-same-command c =

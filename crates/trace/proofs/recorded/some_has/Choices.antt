@@ -2,7 +2,7 @@
 use lib.ListN.{drop}
 use mathlib.Core.Path.{_≡_}
 use Rattle.trace.proofs.Entries.{has}
-use Rattle.trace.proofs.recorded.has_command.Given as given
+use Rattle.trace.proofs.recorded.some_has.Given as given
 
 abbrev pub Inv-loop-s : given.InvT-loop-s
 Inv-loop-s l = has (l .command) (drop (l .s-index) (l .list)) ≡ has (l .command) (l .list)
