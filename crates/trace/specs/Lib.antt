@@ -1,0 +1,4 @@
+pub mod Reads
+pub mod Format
+pub mod Told
+pub mod Laws

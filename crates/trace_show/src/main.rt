@@ -1,0 +1,118 @@
+//! Reads a trace file from standard input and tells what it holds: the contents with their lengths, and each record
+//! with its command, its reads and its write. A file is told by two digits and a content by its index, which counts
+//! from 1. A file that is refused is told by its number alone.
+ghost use Prim.Native.Nat.{_≤_};
+ghost use lib.ListN.{length};
+ghost use Rattle.std.specs.Vec.{made};
+use model::Command;
+use model::Kind;
+use model::Record;
+use std::io;
+use std::io::Read;
+use trace::Records;
+use trace::Trace;
+use trace::check;
+use trace::reads_of;
+
+/// The most bytes that a file can have that is saved or loaded.
+const MOST: usize = 82180;
+
+/// One byte more, so that a longer file is seen to be too long.
+const ROOM: usize = 82181;
+
+/// Fills the buffer from standard input, as far as that goes.
+fn read_input(rt: &LibcRuntime, bytes: &mut [u8]) -> io::Result<usize>
+    ensures { λ r. ⌜ made r (λ n. n ≤ length (now (bytes .exit))) ⌝ }
+{
+    let mut stdin = rt.stdin();
+    let mut len = 0;
+    while len < bytes.len() {
+        let n = stdin.read(&mut bytes[len..])?;
+        if n == 0 {
+            break;
+        }
+        len += n;
+    }
+    Ok(len)
+}
+
+/// The word by which scripts name a kind.
+fn word(kind: Kind) -> &'static str {
+    match kind {
+        Kind::Copy => "copy",
+        Kind::Join => "join",
+        Kind::Gather => "gather",
+        Kind::Choose => "choose",
+        Kind::Tally => "tally",
+        Kind::Check => "check",
+    }
+}
+
+fn show_command(rt: &LibcRuntime, command: Command) -> io::Result<()> {
+    let name = word(command.kind);
+    let arity = command.kind.arity();
+    let a = command.a;
+    let b = command.b;
+    print!(rt, "{name} {a:02} {b:02}")?;
+    if arity >= 3 {
+        let c = command.c;
+        print!(rt, " {c:02}")?;
+    }
+    if arity >= 4 {
+        let d = command.d;
+        print!(rt, " {d:02}")?;
+    }
+    Ok(())
+}
+
+fn show_record(rt: &LibcRuntime, record: &Record) -> io::Result<()> {
+    print!(rt, "record ")?;
+    show_command(rt, record.command)?;
+    print!(rt, " reads")?;
+    for u in reads_of(record) {
+        let file = u.file;
+        let index = u.number;
+        print!(rt, " {file:02}:{index}")?;
+    }
+    let file = record.write.file;
+    let index = record.write.number;
+    println!(rt, " writes {file:02}:{index}")
+}
+
+fn show_contents(rt: &LibcRuntime, contents: &[&[u8]]) -> io::Result<()> {
+    let count = contents.len();
+    println!(rt, "contents {count}")?;
+    for i in 0..count {
+        let index = i as u64 + 1;
+        let length = contents[i].len();
+        println!(rt, "content {index} length {length}")?;
+    }
+    Ok(())
+}
+
+fn show_records(rt: &LibcRuntime, mut records: Records) -> io::Result<()> {
+    while let Some(record) = records.next() {
+        show_record(rt, &record)?;
+    }
+    Ok(())
+}
+
+fn show(rt: &LibcRuntime, trace: &Trace) -> io::Result<()> {
+    show_contents(rt, trace.contents())?;
+    show_records(rt, trace.records())
+}
+
+fn main(rt: LibcRuntime) -> io::Result<()> {
+    let mut buffer = [0u8; ROOM];
+    let len = read_input(&rt, &mut buffer)?;
+    if len > MOST {
+        return println!(rt, "longer than {MOST} bytes");
+    }
+    match check(&buffer[0..len]) {
+        Ok(trace) => show(&rt, &trace),
+        Err(refusal) => {
+            let number = refusal.number();
+            println!(rt, "refused {number}")
+        }
+    }
+}

@@ -1,0 +1,4 @@
+pub mod Saves
+pub mod Puts
+pub mod Rooms
+pub mod Laws

@@ -1,0 +1,6 @@
+mod lists;
+mod pieces;
+mod sizes;
+mod whole;
+
+pub use whole::save;
