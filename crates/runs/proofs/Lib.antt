@@ -1,3 +1,4 @@
+pub mod Asks
 pub mod Gives
 pub mod Grown
 pub mod Keeps
