@@ -1,7 +1,6 @@
 -- What a step of the run comes to: the policy is asked of the lines that are left, or no line is left and the step is refused.
-use Prim.Native.Nat.{ℕ, _<_}
-use lib.Dec.{ltb}
-use mathlib.Core.Bool.{Bool, true, false, not, _&&_}
+use Prim.Native.Nat.{ℕ}
+use mathlib.Core.Bool.{Bool, true}
 use mathlib.Core.List.{List}
 use mathlib.Core.Logic.{inl, inr}
 use mathlib.Core.Path.{_≡_, refl, sym, _∙_}
