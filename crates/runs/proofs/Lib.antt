@@ -1,4 +1,6 @@
+pub mod Asks
 pub mod Gives
+pub mod Going
 pub mod Grown
 pub mod Keeps
 pub mod Left

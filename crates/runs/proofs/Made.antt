@@ -103,6 +103,9 @@ module _ (es : List Entry) (most : (l : ℕ) → made l es ≤ 17) where
         | inr k ↦ (let same : l ≡ n = omega arith in let r′ : made n es + j ≤ 17 = rw same at r in omega (arith, r′, total-most n))
       ]
 
+  pub all-most : (n : ℕ) → all-below n es ≡ true → length es ≤ 17 * n
+  all-most n b = omega (arith, total-all n es b, total-most n)
+
   pub room-left : (n l j : ℕ) → all-below n es ≡ true → l < n → made l es + j ≤ 17 → length es + j ≤ 17 * n
   room-left n l j b lt r = omega (arith, total-all n es b, total-room n l j lt r)
 

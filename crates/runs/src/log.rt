@@ -6,6 +6,7 @@ use model::Entry;
 mod closing;
 mod methods;
 mod opening;
+mod stepping;
 mod working;
 
 /// The entries and the run, without what is always so of them.
