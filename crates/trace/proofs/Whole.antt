@@ -6,6 +6,7 @@ use mathlib.Core.Bool.{Bool, true, false, cond}
 use mathlib.Core.List.{List, [], _∷_}
 use mathlib.Core.Path.{_≡_, refl, sym, ap, _∙_}
 use native.Mathlib.Omega.{arith}
+use Rattle.std.specs.Vec.{made}
 use Rattle.std.specs.declared.result.Result.{Result}
 use Rattle.std.specs.declared.result.Result.the-variants.{Ok, Err}
 use Rattle.model.specs.Contents.{Content}
@@ -13,11 +14,14 @@ use Rattle.model.specs.Records.{Record}
 use Rattle.model.specs.Load.{Traced}
 use Rattle.model.specs.declared.refusal.Refusal.{Refusal}
 use Rattle.model.specs.declared.refusal.Refusal.the-variants.{TraceLength}
+use Rattle.trace.proofs.Accepted.{accepted}
 use Rattle.trace.proofs.Agains.{all-again}
 use Rattle.trace.proofs.Backs.{same-value, same-rest}
-use Rattle.trace.specs.Format.{start, raised, ended, finished, all-records, the-contents, the-records, with-contents, decoded}
+use Rattle.trace.specs.Format.{start, raised, ended, finished, all-records, the-contents, the-records, with-contents, decoded, encoded, lawful}
+use Rattle.trace.specs.Laws.{Bytes}
 use Rattle.trace.specs.Reads.{Reading, read, then, rule, a-count, readable}
-use Rattle.trace.specs.Told.{gathered, high-of, again, at-end}
+use Rattle.trace.specs.Told.{gathered, high-of, again, at-end, meant, checked}
+use Rattle.trace.specs.declared.file.Trace.{Trace}
 
 -- what was gathered from
 pub record From {X Y : Type 0} (f : X → Y) (r : Reading X) (y : Y) (bs : List ℕ) : Type 0 where
@@ -90,3 +94,12 @@ module _ (bs : List ℕ) (cs : List Content) (n : ℕ) (ds : List ℕ) (first : 
       unfolding gathered-end
       good-end f =
           ap (λ l. Ok (record { contents = cs; records = l })) (all-again n m start fs (rs .value) gs (rs .was)) ∙ ap (λ r. gathered-end r trace) f ∙ ends
+
+-- what is accepted is lawful, and written as it was
+pub made-lawful : (r : Result Trace Refusal) (bs : List ℕ) → Bytes bs → checked r ≡ decoded bs → made r (λ t. lawful (meant t) ≡ true)
+made-lawful (Ok t) bs ok e = accepted bs (meant t) ok (sym e) .1
+made-lawful (Err x) bs ok e = tt
+
+pub made-written : (r : Result Trace Refusal) (bs : List ℕ) → Bytes bs → checked r ≡ decoded bs → made r (λ t. encoded (meant t) ≡ bs)
+made-written (Ok t) bs ok e = accepted bs (meant t) ok (sym e) .0
+made-written (Err x) bs ok e = tt

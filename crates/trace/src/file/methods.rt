@@ -1,8 +1,10 @@
 ghost use denote.Ref.{now as held};
 ghost use mathlib.Core.Path.{_≡_};
+ghost use mathlib.Core.Bool.{true};
 ghost use mathlib.Core.List.{map};
 ghost use Rattle.std.specs.Options.{mapped};
-ghost use Rattle.trace.specs.Format.{decoded};
+ghost use Rattle.std.specs.Vec.{made};
+ghost use Rattle.trace.specs.Format.{decoded, encoded, lawful};
 ghost use Rattle.trace.specs.Told.{left, at-end, checked, meant, coming, content-at};
 use crate::file::Trace;
 use crate::input::Input;
@@ -40,12 +42,24 @@ impl<'t> Input<'t> {
     }
 }
 
-/// Checks the bytes of a trace file from front to back.
-pub fn check(bytes: &[u8]) -> Result<Trace<'_>, Refusal>
-    ensures { λ r. ⌜ checked r ≡ decoded (now (bytes .entry)) ⌝ }
+/// Reads the whole of a file.
+fn whole(bytes: &[u8]) -> Result<Trace<'_>, Refusal>
+    ensures value { λ r. ⌜ checked r ≡ decoded (now (bytes .entry)) ⌝ }
+    ensures lawful { λ r. ⌜ made r (λ t. lawful (meant t) ≡ true) ⌝ }
+    ensures written { λ r. ⌜ made r (λ t. encoded (meant t) ≡ now (bytes .entry)) ⌝ }
 {
     let mut input = Input { rest: bytes };
     input.trace()
+}
+
+/// Checks the bytes of a trace file from front to back. A file that is accepted holds a lawful trace, and its bytes
+/// are what that trace is written as.
+pub fn check(bytes: &[u8]) -> Result<Trace<'_>, Refusal>
+    ensures value { λ r. ⌜ checked r ≡ decoded (now (bytes .entry)) ⌝ }
+    ensures lawful { λ r. ⌜ made r (λ t. lawful (meant t) ≡ true) ⌝ }
+    ensures written { λ r. ⌜ made r (λ t. encoded (meant t) ≡ now (bytes .entry)) ⌝ }
+{
+    whole(bytes)
 }
 
 /// The content of an index in a list; indices count from 1.

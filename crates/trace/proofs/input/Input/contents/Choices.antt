@@ -1,3 +1,4 @@
+-- What is left gives the contents.
 use lib.ListN.{length}
 use mathlib.Core.Path.{_≡_}
 use Rattle.trace.proofs.Pieces.{Rest}

@@ -1,3 +1,4 @@
+-- The reads are taken one after the other.
 use mathlib.Core.Path.{refl}
 use native.Mathlib.Omega.{arith}
 use Rattle.std.proofs.shelf.Results.{made-from-err}

@@ -1,3 +1,4 @@
+-- What is left gives the reads, and the highest index so far is known.
 use Rattle.trace.proofs.Highs.{Rest}
 use Rattle.trace.proofs.input.Input.uses.Given as given
 use Rattle.trace.specs.Reads.{many}

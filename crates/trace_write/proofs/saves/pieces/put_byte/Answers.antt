@@ -1,3 +1,4 @@
+-- One byte is set.
 use mathlib.Core.Path.{refl}
 use Rattle.trace_write.proofs.Writes.{put-one}
 use Rattle.trace_write.proofs.saves.pieces.put_byte.Needs as need

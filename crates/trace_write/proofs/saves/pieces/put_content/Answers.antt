@@ -1,3 +1,4 @@
+-- The length, then the bytes.
 use lib.ListN.{length}
 use native.Mathlib.Omega.{arith}
 use Rattle.std.proofs.shelf.Lists.{length-append}

@@ -1,3 +1,4 @@
+-- Some bytes are copied to their place.
 use mathlib.Core.Path.{refl}
 use Rattle.trace_write.proofs.Writes.{put-piece}
 use Rattle.trace_write.proofs.saves.pieces.put_piece.Needs as need
