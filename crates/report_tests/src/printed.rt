@@ -15,13 +15,14 @@ use report::report;
 use script::Script;
 use std::test::*;
 
-/// A build of two lines, of which the second wrote what the first had read.
+/// A build of two lines.
 const BUILT: Built = Built {
     first: None,
     executed: 2,
     skipped: 0,
 };
 
+/// The second line was to write a file that the first had read.
 fn stopped() -> BuildRefusal {
     let earlier = Entry {
         line: 0,
