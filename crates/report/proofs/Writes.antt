@@ -1,18 +1,13 @@
 -- Writes one after the other, and how long what is written can be.
-use Prim.Native.Nat.{ℕ, zero, suc, _+_, _^_, _<_, _≤_}
-use lib.ListN.{length, getD, set, drop}
+use Prim.Native.Nat.{ℕ, suc, _+_, _<_, _≤_}
+use lib.ListN.{length, set}
 use mathlib.Core.List.{List, [], _∷_, _++_}
-use mathlib.Core.Path.{_≡_, refl, sym, ap, _∙_}
+use mathlib.Core.Path.{_≡_, ap, _∙_}
 use native.Mathlib.Omega.{arith}
 use Rattle.std.proofs.shelf.Decimals.{length-decimal-le}
-use Rattle.std.proofs.shelf.Lists.{length-append, length-set}
-use Rattle.std.specs.Written.{decimal}
+use Rattle.std.proofs.shelf.Lists.{length-append}
 use Rattle.report.specs.Output.{laid}
 use Rattle.report.specs.Report.{then-number}
-
-pub length-laid : (at : ℕ) (xs out : List ℕ) → length (laid at xs out) ≡ length out
-length-laid at [] out = refl
-length-laid at (x ∷ xs) out = length-laid (at + 1) xs (set out at x) ∙ length-set out at x
 
 pub laid-append : (at : ℕ) (xs ys out : List ℕ) → laid (at + length xs) ys (laid at xs out) ≡ laid at (xs ++ ys) out
 laid-append at [] ys out = let z : at + 0 ≡ at = omega arith in ap (λ k. laid k ys out) z
@@ -43,10 +38,6 @@ then {at} {mid} {end} {xs} {ys} {before} {middle} {after} a b =
 -- the same bytes by another name
 pub as-bytes : {at end : ℕ} {xs before after : List ℕ} (ys : List ℕ) → xs ≡ ys → Wrote at xs before end after → Wrote at ys before end after
 as-bytes {at} {end} {xs} {before} {after} ys e w = record { bytes = w .bytes ∙ ap (λ x. laid at x before) e; end-is = w .end-is ∙ ap (λ x. at + length x) e }
-
--- a write leaves the buffer as long as it is
-pub same-length : {at end : ℕ} {xs before after : List ℕ} → Wrote at xs before end after → length after ≡ length before
-same-length {at} {end} {xs} {before} {after} a = ap length (a .bytes) ∙ length-laid at xs before
 
 -- a number of 8 bits takes at most 3 digits, one up to 4,096 at most 4
 pub three-digits : (n : ℕ) → n < 256 → length (then-number n) ≤ 4

@@ -1,9 +1,7 @@
 -- The report of a build, byte for byte.
-use mathlib.Core.Bool.{cond}
 use mathlib.Core.List.{List, [], _∷_, _++_}
 use Prim.Native.Nat.{ℕ, suc, _+_, _/_, _%_}
 use lib.Chars.{codes}
-use lib.Dec.{ltb}
 use lib.ListN.{length, getD}
 use Rattle.std.specs.Written.{decimal}
 use Rattle.std.specs.declared.option.Option.{Option}
@@ -16,13 +14,10 @@ use Rattle.model.specs.Numbers.{number-of}
 use Rattle.model.specs.declared.answers.BuildRefusal.{BuildRefusal}
 use Rattle.model.specs.declared.answers.BuildRefusal.the-variants as why
 use Rattle.model.specs.declared.answers.Built.{Built}
-use Rattle.model.specs.declared.refusal.Refusal.{Refusal}
-use Rattle.model.specs.declared.refusal.Refusal.the-variants.{ReportBufferShort}
 use Rattle.model.specs.declared.run.Fault.{Fault}
 use Rattle.model.specs.declared.run.Fault.the-variants.{TooLong, NoRoom, Hazard, Absent, BadList}
 use Rattle.model.specs.declared.run.HazardKind.{HazardKind}
 use Rattle.model.specs.declared.run.HazardKind.the-variants.{WriteWrite, ReadWrite, SpeculativeWriteRead}
-use Rattle.model.specs.declared.run.Stop.{Stop}
 
 -- NUMBERS AND WORDS
 

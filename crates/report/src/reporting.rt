@@ -1,7 +1,7 @@
 ghost use mathlib.Core.Bool.{cond};
-ghost use mathlib.Core.List.{List};
+ghost use mathlib.Core.List.{[]};
 ghost use mathlib.Core.Path.{_≡_};
-ghost use Prim.Native.Nat.{_+_, _*_, _<_, _≤_};
+ghost use Prim.Native.Nat.{_+_, _≤_};
 ghost use lib.Dec.{ltb};
 ghost use lib.ListN.{length, getD};
 ghost use Rattle.model.specs.Contents.{told};
@@ -9,9 +9,8 @@ ghost use Rattle.model.specs.declared.refusal.Refusal.the-variants.{ReportBuffe
 ghost use Rattle.pool.specs.Contents.{meant};
 ghost use Rattle.script.specs.Scripts.{meaning};
 ghost use Rattle.std.specs.declared.result.Result.the-variants.{Ok, Err};
-ghost use mathlib.Core.List.{[]};
 ghost use Rattle.report.specs.Output.{laid};
-ghost use Rattle.report.specs.Report.{held-line, file-lines, report-bytes};
+ghost use Rattle.report.specs.Report.{held-line, report-bytes};
 use crate::first::put_first;
 use crate::held::put_held;
 use files::FileStore;

@@ -1,7 +1,5 @@
 -- Six parts, one after the other; the name has at most 22 bytes, each line at most three digits.
 use mathlib.Core.List.{[], _∷_}
-use mathlib.Core.Path.{ap}
-use lib.ListN.{length}
 use native.Mathlib.Omega.{arith}
 use Rattle.report.specs.Report.{kind-word, two-digits, then-number}
 use Rattle.report.proofs.Writes.{wrote, then, as-bytes, three-digits}

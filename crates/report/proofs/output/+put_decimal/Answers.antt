@@ -1,5 +1,5 @@
 -- A number below ten is one digit; any other is its tenth, and then its last digit.
-use Prim.Native.Nat.{_+_, _/_, _%_, _<_, _≤_, _^_}
+use Prim.Native.Nat.{_+_, _/_, _%_}
 use lib.ListN.{length}
 use mathlib.Core.List.{[], _∷_}
 use mathlib.Core.Path.{_≡_, sym, ap, _∙_}

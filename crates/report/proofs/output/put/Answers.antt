@@ -1,9 +1,9 @@
 -- A turn writes the next of the bytes that are left; at the end none are left.
 use Prim.Native.Nat.{_+_}
-use lib.ListN.{length, drop}
+use lib.ListN.{drop}
 use mathlib.Core.Path.{sym, ap, _∙_}
 use native.Mathlib.Omega.{arith}
-use Rattle.std.proofs.shelf.Lists.{at-drop-more, at-drop-all, length-set}
+use Rattle.std.proofs.shelf.Lists.{at-drop-more, at-drop-all}
 use Rattle.report.specs.Output.{laid}
 use Rattle.report.proofs.output.put.Needs as need
 

@@ -1,5 +1,5 @@
 -- A turn writes the line of its file; after 64 of them nothing is left.
-use Prim.Native.Nat.{_+_, _≤_}
+use Prim.Native.Nat.{_+_}
 use lib.ListN.{length, getD, drop}
 use mathlib.Core.List.{[], _∷_, _++_}
 use mathlib.Core.Path.{_≡_, sym, ap, _∙_}

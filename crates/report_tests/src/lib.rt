@@ -1,0 +1,3 @@
+//! Reports of builds, as they are printed.
+#[cfg(test)]
+mod printed;
