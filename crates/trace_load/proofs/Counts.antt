@@ -19,7 +19,7 @@ use Rattle.model.specs.Load.{Traced, hinted, hints}
 use Rattle.model.specs.declared.command.Command.{Command}
 use Rattle.model.specs.declared.record.Record as Code
 use Rattle.model.specs.declared.refusal.Refusal.the-variants.{NoRoomToLoad}
-use Rattle.trace.specs.Format.{Before, start, noted, push, files-ok, known-command, record-ok, lawful}
+use Rattle.trace.specs.Format.{Before, start, noted, push, content-ok, files-ok, known-command, record-ok, lawful}
 use Rattle.trace.specs.Reads.{each, after}
 use Rattle.trace_load.specs.Takes.{fresh, hints-told, hints-after}
 
@@ -99,9 +99,11 @@ module _ (n : ℕ) where
 -- there are places for all
 pub fits-is : (xs : List Content) (p : Pool) (t : Traced) (rs : List Record) (places : ℕ) → lawful t ≡ true → length rs ≤ places → leb (fresh rs (t .records)) (places - length rs) ≡ leb (length (hints xs p (t .records) rs)) places
 fits-is xs p t rs places ok h =
-    let a = and-parts _ _ ok in
-    let b = and-parts _ (eqb (after noted start (t .records) .high) (length (t .contents))) (a .1) in
-    let c = and-parts (leb (length (t .records)) 256) (each (record-ok (length (t .contents))) noted start (t .records)) (b .0) in
+    let records = each (record-ok (length (t .contents))) noted start (t .records) in
+    let used = eqb (after noted start (t .records) .high) (length (t .contents)) in
+    let a = and-parts (leb (length (t .contents)) 1024 && each content-ok push [] (t .contents)) ((leb (length (t .records)) 256 && records) && used) ok in
+    let b = and-parts (leb (length (t .records)) 256 && records) used (a .1) in
+    let c = and-parts (leb (length (t .records)) 256) records (b .0) in
     let l = hints-length (length (t .contents)) xs p start (t .records) rs (c .1) in
     elim (cases-lt places (length (hints xs p (t .records) rs))) [
       | inl lt ↦ lt-leb (fresh rs (t .records)) (places - length rs) (omega arith) ∙ sym (lt-leb (length (hints xs p (t .records) rs)) places lt)
