@@ -1,12 +1,10 @@
 //! Reads a script from standard input, puts its starting contents into a pool and sets their files, and states what
 //! the files then hold: how many lines the script has, and each file that has a content with its label and length. A
 //! script that is refused is told by its number alone.
-ghost use Prim.Native.Nat.{_≤_};
-ghost use lib.ListN.{length};
-ghost use Rattle.std.specs.Vec.{made};
 use files::FileStore;
 use files::Table;
 use files::TableFiles;
+use input::read_input;
 use model::Refusal;
 use pool::NoRoom;
 use pool::Place;
@@ -14,27 +12,10 @@ use pool::Pool;
 use pool::Put;
 use script::Script;
 use std::io;
-use std::io::Read;
 use std::io::Write;
 
 /// One byte more than a script may have, so that a longer text is seen to be too long.
 const MOST: usize = 16385;
-
-/// Fills the buffer from standard input, as far as that goes.
-fn read_input(rt: &LibcRuntime, text: &mut [u8]) -> io::Result<usize>
-    ensures { λ r. ⌜ made r (λ n. n ≤ length (now (text .exit))) ⌝ }
-{
-    let mut stdin = rt.stdin();
-    let mut len = 0;
-    while len < text.len() {
-        let n = stdin.read(&mut text[len..])?;
-        if n == 0 {
-            break;
-        }
-        len += n;
-    }
-    Ok(len)
-}
 
 /// Puts each starting content into the pool and sets its file.
 fn put_starts(script: &Script, files: &mut Table, pool: &mut Pool) -> Result<(), NoRoom> {

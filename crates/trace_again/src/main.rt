@@ -1,8 +1,6 @@
 //! Reads a trace file from standard input, takes it into an empty pool and an empty book, saves it again, and tells
 //! whether the bytes are the same. A file that is refused is told by its number alone.
-ghost use Prim.Native.Nat.{_≤_};
-ghost use lib.ListN.{length};
-ghost use Rattle.std.specs.Vec.{made};
+use input::read_input;
 use lists::Lent;
 use model::Command;
 use model::Kind;
@@ -13,7 +11,6 @@ use model::Use;
 use pool::Place;
 use pool::Pool;
 use std::io;
-use std::io::Read;
 use trace::check;
 use trace_load::put_contents;
 use trace_load::take_hints;
@@ -21,22 +18,6 @@ use trace_write::save;
 
 /// The most bytes that a file can have that is saved or loaded, and one more.
 const ROOM: usize = 82181;
-
-/// Fills the buffer from standard input, as far as that goes.
-fn read_input(rt: &LibcRuntime, bytes: &mut [u8]) -> io::Result<usize>
-    ensures { λ r. ⌜ made r (λ n. n ≤ length (now (bytes .exit))) ⌝ }
-{
-    let mut stdin = rt.stdin();
-    let mut len = 0;
-    while len < bytes.len() {
-        let n = stdin.read(&mut bytes[len..])?;
-        if n == 0 {
-            break;
-        }
-        len += n;
-    }
-    Ok(len)
-}
 
 /// A record that stands in places of a book which are not used yet.
 fn blank() -> Record {

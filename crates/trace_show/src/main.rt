@@ -1,14 +1,14 @@
-//! Reads a trace file from standard input and tells what it holds: the contents with their lengths, and each record
-//! with its command, its reads and its write. A file is told by two digits and a content by its index, which counts
-//! from 1. A file that is refused is told by its number alone.
-ghost use Prim.Native.Nat.{_≤_};
-ghost use lib.ListN.{length};
-ghost use Rattle.std.specs.Vec.{made};
+//! Tells what trace files hold: the contents with their lengths, and each record with its command, its reads and its
+//! write. A file is told by two digits and a content by its index, which counts from 1. A trace file that is refused is
+//! told by its number alone. The words that it is given name the trace files, `-` standard input; without a word it
+//! reads standard input.
+use input::read_input;
 use model::Command;
 use model::Kind;
 use model::Record;
+use std::env;
+use std::fs;
 use std::io;
-use std::io::Read;
 use trace::Records;
 use trace::Trace;
 use trace::check;
@@ -19,22 +19,6 @@ const MOST: usize = 82180;
 
 /// One byte more, so that a longer file is seen to be too long.
 const ROOM: usize = 82181;
-
-/// Fills the buffer from standard input, as far as that goes.
-fn read_input(rt: &LibcRuntime, bytes: &mut [u8]) -> io::Result<usize>
-    ensures { λ r. ⌜ made r (λ n. n ≤ length (now (bytes .exit))) ⌝ }
-{
-    let mut stdin = rt.stdin();
-    let mut len = 0;
-    while len < bytes.len() {
-        let n = stdin.read(&mut bytes[len..])?;
-        if n == 0 {
-            break;
-        }
-        len += n;
-    }
-    Ok(len)
-}
 
 /// The word by which scripts name a kind.
 fn word(kind: Kind) -> &'static str {
@@ -102,17 +86,40 @@ fn show(rt: &LibcRuntime, trace: &Trace) -> io::Result<()> {
     show_records(rt, trace.records())
 }
 
-fn main(rt: LibcRuntime) -> io::Result<()> {
-    let mut buffer = [0u8; ROOM];
-    let len = read_input(&rt, &mut buffer)?;
-    if len > MOST {
-        return println!(rt, "longer than {MOST} bytes");
-    }
-    match check(&buffer[0..len]) {
-        Ok(trace) => show(&rt, &trace),
+/// Tells what the bytes of a trace file hold, or the number by which they are refused.
+fn tell(rt: &LibcRuntime, bytes: &[u8]) -> io::Result<()> {
+    match check(bytes) {
+        Ok(trace) => show(rt, &trace),
         Err(refusal) => {
             let number = refusal.number();
             println!(rt, "refused {number}")
         }
     }
+}
+
+fn tell_input(rt: &LibcRuntime) -> io::Result<()> {
+    let mut buffer = [0u8; ROOM];
+    let len = read_input(rt, &mut buffer)?;
+    if len > MOST {
+        return println!(rt, "longer than {MOST} bytes");
+    }
+    tell(rt, &buffer[0..len])
+}
+
+fn tell_named(rt: &LibcRuntime, name: &str) -> io::Result<()> {
+    rt.println(name)?;
+    if name == "-" {
+        return tell_input(rt);
+    }
+    let bytes = fs::read(rt, name)?;
+    tell(rt, bytes.as_slice())
+}
+
+fn main(rt: LibcRuntime) -> io::Result<()> {
+    let mut named = false;
+    for name in env::args(&rt)?.skip(1) {
+        named = true;
+        tell_named(&rt, name.as_str())?;
+    }
+    if named { Ok(()) } else { tell_input(&rt) }
 }
