@@ -2,23 +2,17 @@
 //! write. A file is told by two digits and a content by its index, which counts from 1. A trace file that is refused is
 //! told by its number alone. The words that it is given name the trace files, `-` standard input; without a word it
 //! reads standard input.
-use input::read_input;
 use model::Command;
 use model::Kind;
 use model::Record;
 use std::env;
 use std::fs;
 use std::io;
+use std::io::Read;
 use trace::Records;
 use trace::Trace;
 use trace::check;
 use trace::reads_of;
-
-/// The most bytes that a file can have that is saved or loaded.
-const MOST: usize = 82180;
-
-/// One byte more, so that a longer file is seen to be too long.
-const ROOM: usize = 82181;
 
 /// The word by which scripts name a kind.
 fn word(kind: Kind) -> &'static str {
@@ -98,12 +92,9 @@ fn tell(rt: &LibcRuntime, bytes: &[u8]) -> io::Result<()> {
 }
 
 fn tell_input(rt: &LibcRuntime) -> io::Result<()> {
-    let mut buffer = [0u8; ROOM];
-    let len = read_input(rt, &mut buffer)?;
-    if len > MOST {
-        return println!(rt, "longer than {MOST} bytes");
-    }
-    tell(rt, &buffer[0..len])
+    let mut bytes = Vec::new(rt.alloc());
+    rt.stdin().read_to_end(&mut bytes)?;
+    tell(rt, bytes.as_slice())
 }
 
 fn tell_named(rt: &LibcRuntime, name: &str) -> io::Result<()> {
