@@ -1,4 +1,6 @@
 //! What a line does: its next act, the hazards that an act meets, a skip by a record, and the replay of a record.
+#![tactic(auto)]
+
 mod acting;
 mod hazard;
 mod line;

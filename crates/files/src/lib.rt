@@ -1,4 +1,6 @@
 //! File stores: maps from the files 0 to 63 to content numbers, and two stores of such a map.
+#![tactic(auto)]
+
 mod codec;
 mod copies;
 mod draft;

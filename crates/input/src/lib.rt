@@ -1,4 +1,6 @@
 //! Reading standard input into a buffer, for the programs.
+#![tactic(auto)]
+
 ghost use Rattle.std.specs.Prelude.{◌≤◌, length, IfOk};
 
 use std::io;

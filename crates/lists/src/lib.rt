@@ -1,4 +1,6 @@
 //! Lists over memory that their owner lends.
+#![tactic(auto)]
+
 mod change;
 mod list;
 mod slices;

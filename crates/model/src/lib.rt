@@ -3,6 +3,8 @@
 //! The meaning stands in `specs/`: what a line does, what an act is, script order, what each call does to the
 //! world, and the promises over every past. Each function here whose name ends in `_stands` says in its contract
 //! that such a promise is proved.
+#![tactic(auto)]
+
 ghost use Rattle.model.specs.Promise.{KeptAsScriptOrder, PutBackAsFound, BuildAsScriptOrder, StoppedBuildPutsBack, BeginsAgain, BeginsAnywhere, NoLineStarves, NoLineStarvesInBuilds, OwnRecordsTrue, OneRecordACommand, PoolInRoom};
 ghost use Rattle.model.specs.Laws.{ScriptOrderAppends, LinesCounted, EachLineCounted, FrontBuildCounted, StatesFollow, KeptLinesRecorded, RoomIsLeft, RoomIsKept, LogHasRoom};
 

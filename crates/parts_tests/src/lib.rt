@@ -1,4 +1,6 @@
 //! The list, the pool and the file stores at the edges of their rules.
+#![tactic(auto)]
+
 #[cfg(test)]
 mod contents;
 #[cfg(test)]

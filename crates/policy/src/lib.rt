@@ -1,4 +1,6 @@
 //! Who acts next: the set of lines that are left, what a policy is, and the policies of the runner.
+#![tactic(auto)]
+
 mod highest_first;
 mod last_run;
 mod line_set;

@@ -1,4 +1,6 @@
 //! What the three policies answer on a table of sets, and how long a front waits under each, and under a fourth.
+#![tactic(auto)]
+
 mod alternating;
 mod script;
 

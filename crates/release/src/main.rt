@@ -1,6 +1,8 @@
 //! Reads a script from standard input, puts its starting contents into a pool and sets their files, and states what
 //! the files then hold: how many lines the script has, and each file that has a content with its label and length. A
 //! script that is refused is told by its number alone.
+#![tactic(auto)]
+
 use files::{FileStore, Table};
 use input::read_input;
 use model::Refusal;

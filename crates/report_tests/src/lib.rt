@@ -1,3 +1,5 @@
 //! Reports of builds, as they are printed.
+#![tactic(auto)]
+
 #[cfg(test)]
 mod printed;

@@ -1,4 +1,6 @@
 //! The library: log, book and ticket over lent memory, and the calls. No call has a premise, and none allocates.
+#![tactic(auto)]
+
 mod book;
 mod calls;
 mod counts;

@@ -1,4 +1,6 @@
 //! The log of a run and the book of records, over lent memory, and what a step, a close and a begin do to them.
+#![tactic(auto)]
+
 mod book;
 mod counts;
 mod log;

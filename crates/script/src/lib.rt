@@ -1,4 +1,6 @@
 //! Scripts: the text that gives files their labels and starting contents, and says which lines a release has.
+#![tactic(auto)]
+
 mod answer;
 mod label;
 mod reading;

@@ -1,5 +1,7 @@
 //! Reads a table of scripts, sound and damaged, and prints what each comes to: how many lines and starting contents
 //! it gives, or the refusal's number and its text line.
+#![tactic(auto)]
+
 use script::Script;
 use std::io;
 use std::io::Write;

@@ -1,5 +1,7 @@
 //! Trace files: contents and records as bytes that shops keep and hand on. Checking such a file, reading it, and
 //! writing one.
+#![tactic(auto)]
+
 mod contents;
 mod file;
 mod input;

@@ -1,5 +1,7 @@
 //! Reads a trace file from standard input, takes it into an empty pool and an empty book, saves it again, and tells
 //! whether the bytes are the same. A file that is refused is told by its number alone.
+#![tactic(auto)]
+
 use input::read_input;
 use lists::Lent;
 use model::{Command, Kind, Record, Refusal, Standing, Use};

@@ -1,6 +1,8 @@
 //! Checks two sound trace files, every cut of them, every change of one byte, every byte more at the end, and some
 //! changes of two bytes. Prints one character for each: `.` where it is accepted, `1` where it is refused with 11,
 //! and `2` where it is refused with 12.
+#![tactic(auto)]
+
 use model::Refusal;
 use std::io;
 use std::io::Write;

@@ -1,4 +1,6 @@
 //! Taking a checked trace file into a pool and a book, all or nothing: the parts of which the call `load` is made.
+#![tactic(auto)]
+
 mod contents;
 mod hints;
 mod loading;

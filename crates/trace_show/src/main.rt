@@ -2,6 +2,8 @@
 //! write. A file is told by two digits and a content by its index, which counts from 1. A trace file that is refused is
 //! told by its number alone. The words that it is given name the trace files, `-` standard input; without a word it
 //! reads standard input.
+#![tactic(auto)]
+
 use model::{Command, Kind, Record};
 use std::io::Read;
 use std::{env, fs, io};

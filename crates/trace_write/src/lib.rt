@@ -1,4 +1,6 @@
 //! Writing a trace file: which records of a book it holds, which contents of the pool they name, and its bytes.
+#![tactic(auto)]
+
 mod chosen;
 mod laws;
 mod order;
