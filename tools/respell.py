@@ -16,6 +16,8 @@ TOKEN = re.compile(NAME)
 PIECE = re.compile(rf'"(?:[^"\\]|\\.)*"|\b(?:goal|c)\.{NAME}|{NAME}')
 MARKS = {"pattern", "unfoldable", "abbrev", "pub", "data", "record", "module"}
 ANSWER = re.compile(r"^ *(?:abbrev )?(?:pub )?(\S+) : goal\.", re.M)
+AS = re.compile(rf"\bas ({NAME})")
+USE = re.compile(r"\buse ([\w.]+)\.\{([^}]*)\}")
 LET = re.compile(rf"\blet ({NAME}) [:=]")
 BINDER = re.compile(rf"[λ({{] ?({NAME}(?: {NAME})*) ?[:.({{]")
 
@@ -46,18 +48,33 @@ def spelled(name):
     return "_".join(parts)
 
 
+def brought(texts):
+    """The names that come from the library."""
+    crates = set(os.listdir("crates"))
+    found = set()
+    for text in texts.values():
+        for module, names in USE.findall(text):
+            if module.split(".")[1:2] and module.startswith("Rattle.") and module.split(".")[1] in crates:
+                continue
+            found.update(n.split(" as ")[0].strip() for n in names.split(","))
+    return found
+
+
 def own(texts):
     """The names with a dash or an old prime that specs/ and proofs/ declare, but for the goals that answers are for."""
     found, made = set(), set()
     for path, text in texts.items():
+        if path.endswith(".rt"):
+            found.update(AS.findall(text))
         if not path.endswith(".antt"):
             continue
         made.update(ANSWER.findall(text))
         found.update(n for n in map(declared, text.split("\n")) if n)
         found.update(LET.findall(text))
+        found.update(AS.findall(text))
         for m in BINDER.finditer(text):
             found.update(m.group(1).split())
-    return {n for n in found if ("-" in n or "′" in n) and n not in made}, made
+    return {n for n in found - brought(texts) if ("-" in n or "′" in n) and n not in made}, made
 
 
 def main():

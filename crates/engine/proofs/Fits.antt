@@ -1,7 +1,7 @@
 -- Contents that have to fit, added one after another.
 use Rattle.std.proofs.Common.{◌≡◌, ℕ, zero, suc, ◌+◌, ◌-◌, ◌<◌, ◌≤◌, Bool, true, false, cond, leb, List, [], ◌∷◌, ◌++◌, map, length, drop, Some, None, Option, sym, refl, ap, ◌∙◌, inl, inr, arith}
-use Rattle.std.proofs.lemmas.List.{append_assoc, append_nil, length-append, drop-map}
-use Rattle.std.proofs.lemmas.Bool.{cond_true, cond_false, cases_Bool, le_leb, lt_leb, leb_true, leb-false}
+use Rattle.std.proofs.lemmas.List.{append_assoc, append-nil, length-append, drop-map}
+use Rattle.std.proofs.lemmas.Bool.{cond-true, cond-false, cases_Bool, le-leb, lt-leb, leb-true, leb-false}
 use Rattle.std.specs.List.{slice_get}
 use Rattle.model.specs.declared.run.Entry.{Entry}
 use Rattle.model.specs.Commands.{all_bytes}
@@ -23,24 +23,24 @@ added r h x z m f l e = either r (h ++ x) h z e ∙ ap (λ b. cond b (Some (h ++
     same =
         let n = length-append h x in
         elim (cases_Bool (leb (length x) (m - length h))) [
-          | inl t ↦ t ∙ sym (le_leb (length (h ++ x)) m (omega (arith, leb_true (length x) (m - length h) t)))
-          | inr u ↦ u ∙ sym (lt_leb (length (h ++ x)) m (omega (arith, leb-false (length x) (m - length h) u)))
+          | inl t ↦ t ∙ sym (le-leb (length (h ++ x)) m (omega (arith, leb-true (length x) (m - length h) t)))
+          | inr u ↦ u ∙ sym (lt-leb (length (h ++ x)) m (omega (arith, leb-false (length x) (m - length h) u)))
         ]
 
 -- what does not fit does not fit with more
 pub over : (a b : Content) (m : ℕ) → None ≡ fitting m a → None ≡ fitting m (a ++ b)
 over a b m e =
     elim (cases_Bool (leb (length a) m)) [
-      | inl t ↦ (let s = cond_true (leb (length a) m) (Some a) None t in let z : ◌≡◌ {A = ℕ} 0 1 = cc in absurd (omega arith))
-      | inr f ↦ sym (cond_false (leb (length (a ++ b)) m) (Some (a ++ b)) None (lt_leb (length (a ++ b)) m (omega (arith, length-append a b, leb-false (length a) m f))))
+      | inl t ↦ (let s = cond-true (leb (length a) m) (Some a) None t in let z : ◌≡◌ {A = ℕ} 0 1 = cc in absurd (omega arith))
+      | inr f ↦ sym (cond-false (leb (length (a ++ b)) m) (Some (a ++ b)) None (lt-leb (length (a ++ b)) m (omega (arith, length-append a b, leb-false (length a) m f))))
     ]
 
 -- what was held is what fits
 pub same_held : (a z : Content) (m : ℕ) → Some z ≡ fitting m a → z ≡ a
 same_held a z m e =
     elim (cases_Bool (leb (length a) m)) [
-      | inl t ↦ (let s = cond_true (leb (length a) m) (Some a) None t in cc)
-      | inr f ↦ (let s = cond_false (leb (length a) m) (Some a) None f in let z : ◌≡◌ {A = ℕ} 0 1 = cc in absurd (omega arith))
+      | inl t ↦ (let s = cond-true (leb (length a) m) (Some a) None t in cc)
+      | inr f ↦ (let s = cond-false (leb (length a) m) (Some a) None f in let z : ◌≡◌ {A = ℕ} 0 1 = cc in absurd (omega arith))
     ]
 
 -- two contents: the first does not fit, or fits and the second follows
@@ -52,7 +52,7 @@ both_added h x y z m n o e r f =
     f ∙ ap (λ k. fitting k (z ++ y)) r ∙ ap (λ t. fitting m (t ++ y)) (same_held (h ++ x) z m e) ∙ ap (fitting m) (append_assoc h x y)
 
 pub short : (h : Content) (m : ℕ) → length h ≤ m → Some h ≡ fitting m h
-short h m l = sym (cond_true (leb (length h) m) (Some h) None (le_leb (length h) m l))
+short h m l = sym (cond-true (leb (length h) m) (Some h) None (le-leb (length h) m l))
 
 -- GATHER: what is left to add at a place of the reads
 abbrev pub left : Pool → List ℕ → ℕ → Content
@@ -89,4 +89,4 @@ module _ (p : Pool) (ns : List ℕ) (k n : ℕ) (h : Content) (m : ℕ) (o : Opt
 
   pub gather_done : None ≡ slice_get ns k → length h ≤ m → Some h ≡ o
   gather_done e l =
-      short h m l ∙ ap (fitting m) (sym (append_nil h)) ∙ ap (λ t. fitting m (h ++ all_bytes (map (content p) t))) (sym (nth_end ns k e)) ∙ inv
+      short h m l ∙ ap (fitting m) (sym (append-nil h)) ∙ ap (λ t. fitting m (h ++ all_bytes (map (content p) t))) (sym (nth_end ns k e)) ∙ inv

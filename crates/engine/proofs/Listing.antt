@@ -1,7 +1,7 @@
 -- The reads of a line, put into sixteen places one after the other.
-use Rattle.std.proofs.Common.{◌≡◌, ℕ, ◌+◌, ◌<◌, ◌≤◌, min, Bool, true, false, cond, not, ◌&&◌, eqb, List, [], ◌∷◌, ◌++◌, length, get_or, take, drop, set, sym, refl, ap, ◌∙◌, append_assoc, append_nil, arith}
-use Rattle.std.proofs.lemmas.List.{at_drop_more, at_drop_all, take_more_set, length-append, length_set, length-take-le}
-use Rattle.std.proofs.lemmas.Bool.{cond_true, cond_false}
+use Rattle.std.proofs.Common.{◌≡◌, ℕ, ◌+◌, ◌<◌, ◌≤◌, min, Bool, true, false, cond, not, ◌&&◌, eqb, List, [], ◌∷◌, ◌++◌, length, get_or, take, drop, set, sym, refl, ap, ◌∙◌, append_assoc, append-nil, arith}
+use Rattle.std.proofs.lemmas.List.{at_drop_more, at_drop_all, take_more_set, length-append, length-set, length-take-le}
+use Rattle.std.proofs.lemmas.Bool.{cond-true, cond-false}
 use Rattle.model.specs.declared.record.Use.{Use}
 use Rattle.model.specs.declared.run.Entry.{Entry}
 use Rattle.model.specs.Book.{use_of, reads_of}
@@ -26,7 +26,7 @@ module _ (l : ℕ) (es : List Entry) (i : ℕ) (us : List Use) (n : ℕ) (inv : 
     at_place = at_drop_more (reads_of l) es i d h ∙ step l (get_or es i d) (drop (i + 1) es)
 
     here : true ≡ reads_by l (get_or es i d) → reads_of l (drop i es) ≡ use_of (get_or es i d) ∷ reads_of l (drop (i + 1) es)
-    here e = at_place ∙ cond_true (reads_by l (get_or es i d)) _ _ (sym e)
+    here e = at_place ∙ cond-true (reads_by l (get_or es i d)) _ _ (sym e)
 
     pub has_place : length (reads_of l es) ≤ 16 → true ≡ reads_by l (get_or es i d) → n < 16
     has_place few e =
@@ -46,14 +46,14 @@ module _ (l : ℕ) (es : List Entry) (i : ℕ) (us : List Use) (n : ℕ) (inv : 
               ∙ append_assoc (take n us) (u ∷ []) (reads_of l (drop (i + 1) es))
               ∙ ap (λ p. take n us ++ p) (sym (here e))
               ∙ inv.split;
-          long = length_set us n u ∙ inv.long;
+          long = length-set us n u ∙ inv.long;
           few = omega arith;
         }
 
     pub no_more : false ≡ reads_by l (get_or es i d) → Sofar l es (i + 1) us n
     no_more e =
         record {
-          split = ap (λ p. take n us ++ p) (sym (at_place ∙ cond_false (reads_by l (get_or es i d)) _ _ (sym e))) ∙ inv.split;
+          split = ap (λ p. take n us ++ p) (sym (at_place ∙ cond-false (reads_by l (get_or es i d)) _ _ (sym e))) ∙ inv.split;
           long = inv.long;
           few = inv.few;
         }
@@ -62,4 +62,4 @@ module _ (l : ℕ) (es : List Entry) (i : ℕ) (us : List Use) (n : ℕ) (inv : 
   all_listed h =
       let f = inv.few in
       let m : min n 16 ≡ n = omega arith in
-      ap (λ k. take k us) m ∙ sym (append_nil (take n us)) ∙ ap (λ p. take n us ++ p) (sym (at_drop_all (reads_of l) es i h)) ∙ inv.split
+      ap (λ k. take k us) m ∙ sym (append-nil (take n us)) ∙ ap (λ p. take n us ++ p) (sym (at_drop_all (reads_of l) es i h)) ∙ inv.split

@@ -1,7 +1,7 @@
 -- A gather's list, two bytes at a time.
 use Rattle.std.proofs.Common.{◌≡◌, ℕ, zero, suc, ◌+◌, ◌-◌, ◌*◌, ◌/◌, ◌<◌, ◌≤◌, Bool, true, false, cond, ◌&&◌, leb, List, [], ◌∷◌, length, get_or, take, drop, is_some, Some, None, Option, sym, refl, ap, ◌∙◌, arith}
 use Rattle.std.proofs.lemmas.List.{take_all}
-use Rattle.std.proofs.lemmas.Bool.{cond_true, cond_false, le_leb, lt_leb, false≢true}
+use Rattle.std.proofs.lemmas.Bool.{cond-true, cond-false, le-leb, lt-leb, false≢true}
 use Rattle.std.specs.List.{slice_get}
 use Rattle.model.specs.Commands.{with_file, pairs, listed}
 use Rattle.engine.specs.Lists.{two, file_at}
@@ -34,10 +34,10 @@ pub pairs_step : (d e : ℕ) (l : List ℕ) → is_some (pairs (d ∷ e ∷ l)) 
 pairs_step d e l = some_pre (two d e) (pairs l)
 
 pub listed_long : (l : List ℕ) → 30 < length l → false ≡ is_some (listed l)
-listed_long l h = ap is_some (sym (cond_false (leb (length l) 30) (pairs l) None (lt_leb (length l) 30 h)))
+listed_long l h = ap is_some (sym (cond-false (leb (length l) 30) (pairs l) None (lt-leb (length l) 30 h)))
 
 pub listed_short : (l : List ℕ) → length l ≤ 30 → is_some (pairs l) ≡ is_some (listed l)
-listed_short l h = ap is_some (sym (cond_true (leb (length l) 30) (pairs l) None (le_leb (length l) 30 h)))
+listed_short l h = ap is_some (sym (cond-true (leb (length l) 30) (pairs l) None (le-leb (length l) 30 h)))
 
 -- past the first two bytes; no list of files ends after one, since no byte past its end is a digit
 no_two : (a b : Bool) (f : ℕ) → is_some (cond ((a && false) && b) (Some f) None) ≡ true → ⊥

@@ -1,7 +1,7 @@
 -- Loops over the entries, the earliest earliest: what is left of them gives what all of them give.
 use Rattle.std.proofs.Common.{◌≡◌, ℕ, zero, suc, ◌+◌, ◌-◌, ◌<◌, ◌≤◌, Bool, true, false, cond, not, ◌&&◌, ◌||◌, eqb, List, [], ◌∷◌, length, get_or, drop, Some, None, Option, sym, refl, ap, ◌∙◌, inl, inr, arith}
 use Rattle.std.proofs.lemmas.List.{at_drop_more, at_drop_all}
-use Rattle.std.proofs.lemmas.Bool.{cond_true, cond_false, cases_Bool}
+use Rattle.std.proofs.lemmas.Bool.{cond-true, cond-false, cases_Bool}
 use Rattle.std.specs.List.{slice_get}
 use Rattle.model.specs.declared.run.Entry.{Entry}
 use Rattle.engine.specs.Reads.{reads_by, numbers}
@@ -17,10 +17,10 @@ numbers_step l e es = by_parts (eqb l e.line) e.wrote (e.number ∷ numbers l es
 
 -- at the entry of a place
 pub numbers_read : (l : ℕ) (es : List Entry) (i : ℕ) (d : Entry) → i < length es → true ≡ reads_by l (get_or es i d) → numbers l (drop i es) ≡ (get_or es i d).number ∷ numbers l (drop (i + 1) es)
-numbers_read l es i d h e = at_drop_more (numbers l) es i d h ∙ numbers_step l (get_or es i d) (drop (i + 1) es) ∙ cond_true (reads_by l (get_or es i d)) _ _ (sym e)
+numbers_read l es i d h e = at_drop_more (numbers l) es i d h ∙ numbers_step l (get_or es i d) (drop (i + 1) es) ∙ cond-true (reads_by l (get_or es i d)) _ _ (sym e)
 
 pub numbers_pass : (l : ℕ) (es : List Entry) (i : ℕ) (d : Entry) → i < length es → false ≡ reads_by l (get_or es i d) → numbers l (drop i es) ≡ numbers l (drop (i + 1) es)
-numbers_pass l es i d h e = at_drop_more (numbers l) es i d h ∙ numbers_step l (get_or es i d) (drop (i + 1) es) ∙ cond_false (reads_by l (get_or es i d)) _ _ (sym e)
+numbers_pass l es i d h e = at_drop_more (numbers l) es i d h ∙ numbers_step l (get_or es i d) (drop (i + 1) es) ∙ cond-false (reads_by l (get_or es i d)) _ _ (sym e)
 
 pub numbers_end : (l : ℕ) (es : List Entry) (i : ℕ) → length es ≤ i → numbers l (drop i es) ≡ []
 numbers_end l es i h = at_drop_all (numbers l) es i h
@@ -42,6 +42,6 @@ numbers_short l [] = omega arith
 numbers_short l (e ∷ es) =
     let s = ap length (numbers_step l e es) in
     elim (cases_Bool (reads_by l e)) [
-      | inl t ↦ (let c = ap length (cond_true (reads_by l e) (e.number ∷ numbers l es) (numbers l es) t) in omega (arith, numbers_short l es))
-      | inr f ↦ (let c = ap length (cond_false (reads_by l e) (e.number ∷ numbers l es) (numbers l es) f) in omega (arith, numbers_short l es))
+      | inl t ↦ (let c = ap length (cond-true (reads_by l e) (e.number ∷ numbers l es) (numbers l es) t) in omega (arith, numbers_short l es))
+      | inr f ↦ (let c = ap length (cond-false (reads_by l e) (e.number ∷ numbers l es) (numbers l es) f) in omega (arith, numbers_short l es))
     ]

@@ -1,6 +1,6 @@
 -- What a line has read, by the numbers of its reads.
 use Rattle.std.proofs.Common.{◌≡◌, ℕ, zero, suc, ◌+◌, ◌-◌, ◌<◌, ◌≤◌, Bool, true, false, cond, eqb, List, [], ◌∷◌, ◌++◌, map, length, drop, Some, None, Option, sym, refl, ap, ◌∙◌, arith}
-use Rattle.std.proofs.lemmas.List.{length_map, drop-map}
+use Rattle.std.proofs.lemmas.List.{length-map, drop-map}
 use Rattle.std.specs.List.{slice_get}
 use Rattle.model.specs.declared.command.Command.{Command}
 use Rattle.model.specs.declared.command.Kind.{Kind}
@@ -92,7 +92,7 @@ pub gather_wanted : (p : Pool) (l : ℕ) (es : List Entry) (k : Command) (m n : 
 gather_wanted p l es k m n g e h =
     let xs = map (content p) (drop 1 (numbers l es)) in
     let shape = read_one p l es m e in
-    let size : n - 1 ≡ length xs = length_tail m n (numbers l es) e h ∙ sym (length_map (drop 1 (numbers l es)) (content p)) in
+    let size : n - 1 ≡ length xs = length_tail m n (numbers l es) e h ∙ sym (length-map (drop 1 (numbers l es)) (content p)) in
     ap (λ i. wanted p l es (gather_next k.b (listed (content p m)) i)) size
     ∙ gathers_next p l es k.b xs (listed (content p m)) (ap (λ t. all_bytes (drop 1 t)) shape)
     ∙ by_kind k Gather (has_read p l es) (content p m ∷ xs) g shape

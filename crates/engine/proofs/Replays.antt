@@ -1,8 +1,8 @@
 -- A record's acts, made again.
 use Rattle.std.proofs.Common.{◌≡◌, ℕ, ◌+◌, ◌<◌, ◌≤◌, Bool, true, false, cond, ◌&&◌, eqb, ltb, leb, List, [], ◌∷◌, ◌++◌, length, get_or, drop, Some, None, Option, sym, refl, ap, ◌∙◌, inl, inr, arith}
-use Rattle.std.proofs.lemmas.Slice.Eq.{bytes_eq_Decides}
+use Rattle.std.proofs.lemmas.Slice.Eq.{bytes_eq-Decides}
 use Rattle.std.proofs.lemmas.List.{at_drop_more, at_drop_all}
-use Rattle.std.proofs.lemmas.Bool.{cond_true, cond_false, cases_Bool, leb-false, eq_eqb, lt_ltb}
+use Rattle.std.proofs.lemmas.Bool.{cond-true, cond-false, cases_Bool, leb-false, eq-eqb, lt-ltb}
 use Rattle.std.specs.Str.{bytes_eq}
 use Rattle.model.specs.declared.run.Entry.{Entry}
 use Rattle.model.specs.declared.record.Use.{Use}
@@ -23,9 +23,9 @@ too_long y x h m e n k short =
     elim (cases_Bool (bytes_eq y x)) [
       | inl t ↦
           (elim (cases_Bool (leb (length (h ++ x)) m)) [
-            | inl u ↦ (let s = cond_true (leb (length (h ++ x)) m) (Some (h ++ x)) None u in let z : ◌≡◌ {A = ℕ} 0 1 = cc in absurd (omega arith))
+            | inl u ↦ (let s = cond-true (leb (length (h ++ x)) m) (Some (h ++ x)) None u in let z : ◌≡◌ {A = ℕ} 0 1 = cc in absurd (omega arith))
             | inr f ↦
-                (let same = (bytes_eq_Decides y x).0 t in
+                (let same = (bytes_eq-Decides y x).0 t in
                 let empty : h ++ x ≡ x = ap (λ q. q ++ x) n in
                 absurd (omega (arith, leb-false (length (h ++ x)) m f, ap length empty, ap length same)))
           ])
@@ -37,7 +37,7 @@ all_fits x h z m e n = same_held (h ++ x) z m e ∙ ap (λ q. q ++ x) n
 
 pub made_is : (p : Pool) (l : ℕ) (es : List Entry) (next : Next) (f g : ℕ) (t : Text) (y : Content) → next ≡ Write g t → f ≡ g → bytes_eq y (spelled p l es t) ≡ makes (wanted p l es next) f y
 made_is p l es next f g t y is same =
-    ap (λ b. b && bytes_eq y (spelled p l es t)) (sym (eq_eqb f g same)) ∙ ap (λ n. makes (wanted p l es n) f y) (sym is)
+    ap (λ b. b && bytes_eq y (spelled p l es t)) (sym (eq-eqb f g same)) ∙ ap (λ n. makes (wanted p l es n) f y) (sym is)
 
 -- one recorded read, or the end
 module _ (p : Pool) (k : List Content → Want) (xs : List Content) (rs : List Use) (u : Use) (i : ℕ) (b : Bool) (inv : follows p k xs (drop i rs) u ≡ b) where
@@ -71,4 +71,4 @@ module _ (p : Pool) (k : List Content → Want) (xs : List Content) (rs : List U
 
 -- a push with room
 pub pushed : (m n : ℕ) (b : Bool) (es fs : List Entry) (x : Entry) → b ≡ ltb m n → m < n → fs ≡ cond b (es ++ x ∷ []) es → fs ≡ es ++ x ∷ []
-pushed m n b es fs x e h f = f ∙ cond_true b (es ++ x ∷ []) es (e ∙ lt_ltb m n h)
+pushed m n b es fs x e h f = f ∙ cond-true b (es ++ x ∷ []) es (e ∙ lt-ltb m n h)

@@ -1,6 +1,6 @@
 -- What a read comes to.
 use Rattle.std.proofs.Common.{◌≡◌, ℕ, zero, suc, ◌+◌, ◌<◌, ◌≤◌, Bool, true, false, cond, eqb, List, [], ◌∷◌, ◌++◌, length, get_or, Some, None, Option, sym, refl, ap, ◌∙◌, arith}
-use Rattle.std.proofs.lemmas.Bool.{cond_true, cond_false, eq_eqb, ne_eqb}
+use Rattle.std.proofs.lemmas.Bool.{cond-true, cond-false, eq-eqb, ne_eqb}
 use Rattle.model.specs.declared.command.Command.{Command}
 use Rattle.model.specs.declared.run.Entry.{Entry}
 use Rattle.model.specs.declared.run.Fault.TheVariants.{Absent, BadList}
@@ -20,7 +20,7 @@ along false b x y xs = refl
 
 -- one read more
 pub has_read_more : (p : Pool) (l f n : ℕ) (es : List Entry) → has_read p l (es ++ (record { line = l; wrote = false; file = f; number = n }) ∷ []) ≡ has_read p l es ++ content p n ∷ []
-has_read_more p l f n [] = cond_true (eqb l l) (content p n ∷ []) [] (eq_eqb l l refl)
+has_read_more p l f n [] = cond-true (eqb l l) (content p n ∷ []) [] (eq-eqb l l refl)
 has_read_more p l f n (e ∷ es) =
     ap (λ xs. cond (eqb l e.line) (cond e.wrote xs (content p e.number ∷ xs)) xs) (has_read_more p l f n es)
     ∙ along (eqb l e.line) e.wrote (content p e.number) (content p n) (has_read p l es)
@@ -38,15 +38,15 @@ module _ (l : ℕ) (e : Entry) (s t : State) (w : Want) (same : t ≡ noted e s)
   pub reading_bad : true ≡ is_bad w → stops t (stop_at l BadList) ≡ reading l s e w
   reading_bad u =
       ap (λ q. stops q (stop_at l BadList)) same
-      ∙ sym (cond_true (is_bad w) (stops (noted e s) (stop_at l BadList)) (goes (noted e s)) (sym u))
-      ∙ sym (cond_false (eqb e.number 0) (stops (noted e s) (stop_at l Absent)) _ (ne_eqb e.number 0 here))
+      ∙ sym (cond-true (is_bad w) (stops (noted e s) (stop_at l BadList)) (goes (noted e s)) (sym u))
+      ∙ sym (cond-false (eqb e.number 0) (stops (noted e s) (stop_at l Absent)) _ (ne_eqb e.number 0 here))
       ∙ untested l (noted e s) (hazard e s.entries) _ none
 
   pub reading_goes : false ≡ is_bad w → goes t ≡ reading l s e w
   reading_goes u =
       ap goes same
-      ∙ sym (cond_false (is_bad w) (stops (noted e s) (stop_at l BadList)) (goes (noted e s)) (sym u))
-      ∙ sym (cond_false (eqb e.number 0) (stops (noted e s) (stop_at l Absent)) _ (ne_eqb e.number 0 here))
+      ∙ sym (cond-false (is_bad w) (stops (noted e s) (stop_at l BadList)) (goes (noted e s)) (sym u))
+      ∙ sym (cond-false (eqb e.number 0) (stops (noted e s) (stop_at l Absent)) _ (ne_eqb e.number 0 here))
       ∙ untested l (noted e s) (hazard e s.entries) _ none
 
 abbrev pub entry_of : ℕ → ℕ → ℕ → Entry

@@ -1,6 +1,6 @@
 ghost use Rattle.std.specs.Prelude.{◌≡◌, ◌≤◌, ◌&&◌, length, ◌==◌};
 ghost use Rattle.model.specs.Acts.{read_absent, line_state};
-ghost use Rattle.model.specs.Book.{reads_of, write_of, recorded as record-made};
+ghost use Rattle.model.specs.Book.{reads_of, write_of, recorded as record_made};
 ghost use Rattle.model.specs.Commands.{want};
 ghost use Rattle.model.specs.Hazards.{fresh, ended};
 ghost use Rattle.model.specs.Records.{said};
@@ -127,7 +127,7 @@ fn find_write(entries: &[Entry], line: u8) -> Use
 /// The own record of a line that has ended.
 pub fn recorded(command: Command, line: u8, entries: &[Entry]) -> Record
     requires { length (reads_of line entries.now) ≤ 16 }
-    ensures { said result ≡ record-made line command entries.now }
+    ensures { said result ≡ record_made line command entries.now }
 {
     let Listed { reads, count } = list_reads(entries, line);
     Record {

@@ -1,14 +1,14 @@
 -- The layout of a map, entry by entry: how it grows by one file.
 use Rattle.std.proofs.Common.{◌≡◌, ℕ, suc, ◌+◌, ◌-◌, ◌*◌, ◌/◌, ◌%◌, ◌<◌, ◌≤◌, Bool, true, false, cond, eqb, List, [], ◌∷◌, ◌++◌, length, get_or, take, set, replicate, sym, refl, ap, ◌∙◌, arith}
-use Rattle.std.proofs.lemmas.List.{append_nil, append_assoc, length-append, length-replicate, set_at, take_more, take_all, length-take}
-use Rattle.std.proofs.lemmas.Bool.{cond_true, cond_false, eq_eqb, ne_eqb}
+use Rattle.std.proofs.lemmas.List.{append-nil, append_assoc, length-append, length-replicate, set_at, take_more, take_all, length-take}
+use Rattle.std.proofs.lemmas.Bool.{cond-true, cond-false, eq-eqb, ne_eqb}
 use Rattle.files.specs.Layout.{entry, entries, counted, present, padded, layout}
 use Rattle.files.specs.Drafts.{Drafted}
 use Rattle.files.specs.declared.draft.Draft.{Draft}
 
 pub entries_push : (f : ℕ) (ns : List ℕ) (n : ℕ) → entries f (ns ++ n ∷ []) ≡ entries f ns ++ entry (f + length ns) n
 unfolding entries
-entries_push f [] n = let same : f ≡ f + 0 = omega arith in append_nil (entry f n) ∙ ap (λ g. entry g n) same
+entries_push f [] n = let same : f ≡ f + 0 = omega arith in append-nil (entry f n) ∙ ap (λ g. entry g n) same
 entries_push f (m ∷ ns) n =
     let same : suc f + length ns ≡ f + suc (length ns) = omega arith in
     ap (λ es. entry f m ++ es) (entries_push (suc f) ns n ∙ ap (λ g. entries (suc f) ns ++ entry g n) same)
@@ -59,9 +59,9 @@ blank ns bs e = record { bytes = e; at = refl; count = refl; room = omega arith;
 
 pub absent : (d : Draft) (ns : List ℕ) (f : ℕ) → f < length ns → get_or ns f 0 ≡ 0 → Drafted d ns f → Drafted d ns (f + 1)
 absent d ns f h z was =
-    let yes = eq_eqb (get_or ns f 0) 0 z in
-    let es = next_entries ns f h ∙ ap (λ es. entries 0 (take f ns) ++ es) (cond_true (eqb (get_or ns f 0) 0) [] _ yes) ∙ append_nil (entries 0 (take f ns)) in
-    let count = next_present ns f h ∙ cond_true (eqb (get_or ns f 0) 0) (present (take f ns)) _ yes in
+    let yes = eq-eqb (get_or ns f 0) 0 z in
+    let es = next_entries ns f h ∙ ap (λ es. entries 0 (take f ns) ++ es) (cond-true (eqb (get_or ns f 0) 0) [] _ yes) ∙ append-nil (entries 0 (take f ns)) in
+    let count = next_present ns f h ∙ cond-true (eqb (get_or ns f 0) 0) (present (take f ns)) _ yes in
     record {
       bytes = was.bytes ∙ ap (λ es. padded 193 (0 ∷ es)) (sym es);
       at = was.at ∙ ap (λ es. suc (length es)) (sym es);
@@ -76,8 +76,8 @@ added d ns f a b h low ne ea eb was =
     let no = ne_eqb n 0 ne in
     let old = entries 0 (take f ns) in
     let es : entries 0 (take (f + 1) ns) ≡ old ++ f ∷ a ∷ b ∷ [] =
-    next_entries ns f h ∙ ap (λ es. old ++ es) (cond_false (eqb n 0) [] (f ∷ n / 256 % 256 ∷ n % 256 ∷ []) no) ∙ ap (λ x. old ++ f ∷ x ∷ n % 256 ∷ []) (sym ea) ∙ ap (λ x. old ++ f ∷ a ∷ x ∷ []) (sym eb) in
-    let count = next_present ns f h ∙ cond_false (eqb n 0) (present (take f ns)) (suc (present (take f ns))) no in
+    next_entries ns f h ∙ ap (λ es. old ++ es) (cond-false (eqb n 0) [] (f ∷ n / 256 % 256 ∷ n % 256 ∷ []) no) ∙ ap (λ x. old ++ f ∷ x ∷ n % 256 ∷ []) (sym ea) ∙ ap (λ x. old ++ f ∷ a ∷ x ∷ []) (sym eb) in
+    let count = next_present ns f h ∙ cond-false (eqb n 0) (present (take f ns)) (suc (present (take f ns))) no in
     let l = length-append old (f ∷ a ∷ b ∷ []) in
     let longer = ap length es in
     record {

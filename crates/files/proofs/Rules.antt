@@ -1,7 +1,7 @@
 -- The layouts of maps are the bytes that keep the rules of an image.
 use Rattle.std.proofs.Common.{◌≡◌, ℕ, zero, suc, ◌+◌, ◌-◌, ◌*◌, ◌/◌, ◌%◌, ◌<◌, ◌≤◌, min, Bool, true, false, cond, eqb, List, [], ◌∷◌, ◌++◌, length, get_or, replicate, sym, refl, ap, ◌∙◌, subst, inl, inr, arith}
 use Rattle.std.proofs.lemmas.List.{get_or_past}
-use Rattle.std.proofs.lemmas.Bool.{cond_true, cond_false, eq_eqb, ne_eqb, eqb_false, cases_eq}
+use Rattle.std.proofs.lemmas.Bool.{cond-true, cond-false, eq-eqb, ne_eqb, eqb-false, cases_eq}
 use Rattle.files.specs.Layout.{Map, Rules, Entries, entries, present, padded, layout, told, numbers, mapped}
 use Rattle.files.proofs.Layouts.{layout_length}
 use Rattle.files.specs.Trips.{digits, present_low}
@@ -22,7 +22,7 @@ kept g (n ∷ ns) zs h low zeros = by (kept (suc g) ns zs (omega arith) (λ i. l
   where
     by : Entries (suc g) (present ns) (entries (suc g) ns ++ zs) → (b : Bool) → eqb n 0 ≡ b → Entries g (cond b (present ns) (suc (present ns))) (cond b [] (g ∷ n / 256 % 256 ∷ n % 256 ∷ []) ++ entries (suc g) ns ++ zs)
     by rest true e = weaken g (suc g) (present ns) (entries (suc g) ns ++ zs) (omega arith) rest
-    by rest false e = (omega arith, omega arith, λ z. eqb_false n 0 e (sym (digits n (low 0)) ∙ z), rest)
+    by rest false e = (omega arith, omega arith, λ z. eqb-false n 0 e (sym (digits n (low 0)) ∙ z), rest)
 
 zeros : (n k : ℕ) → ◌≡◌ {A = ℕ} (get_or (replicate n 0) k 0) 0
 zeros zero k = get_or_past [] k 0 (omega arith)
@@ -47,14 +47,14 @@ told_none f g (suc n) (x ∷ []) h e = refl
 told_none f g (suc n) (x ∷ a ∷ []) h e = refl
 told_none f g (suc n) (x ∷ a ∷ b ∷ bs) h e =
     let below = e.0 in
-    cond_false (eqb x f) (a * 256 + b) (told f n bs) (ne_eqb x f (λ z. omega arith)) ∙ told_none f (suc x) n bs (omega arith) e.3
+    cond-false (eqb x f) (a * 256 + b) (told f n bs) (ne_eqb x f (λ z. omega arith)) ∙ told_none f (suc x) n bs (omega arith) e.3
 
 -- the numbers of files above the first entry's are those of the other entries
 numbers_skip : (m f n g a b : ℕ) (bs : List ℕ) → g < f → numbers m f (suc n) (g ∷ a ∷ b ∷ bs) ≡ numbers m f n bs
 unfolding numbers told
 numbers_skip zero f n g a b bs h = refl
 numbers_skip (suc m) f n g a b bs h =
-    ap (λ x. x ∷ numbers m (suc f) (suc n) (g ∷ a ∷ b ∷ bs)) (cond_false (eqb g f) (a * 256 + b) (told f n bs) (ne_eqb g f (λ z. omega arith)))
+    ap (λ x. x ∷ numbers m (suc f) (suc n) (g ∷ a ∷ b ∷ bs)) (cond-false (eqb g f) (a * 256 + b) (told f n bs) (ne_eqb g f (λ z. omega arith)))
     ∙ ap (λ xs. told f n bs ∷ xs) (numbers_skip m (suc f) n g a b bs (omega arith))
 
 all_zero : (bs : List ℕ) → ((k : ℕ) → get_or bs k 0 ≡ 0) → bs ≡ replicate (length bs) 0
@@ -70,11 +70,11 @@ record Again (ns bs : List ℕ) (f n : ℕ) : Type 0 where
 with_absent : (ns bs : List ℕ) (f n t : ℕ) → t ≡ 0 → Again ns bs (suc f) n → Again (t ∷ ns) bs f n
 unfolding entries present
 with_absent ns bs f n t z again =
-    let yes = eq_eqb t 0 z in
-    let none = cond_true (eqb t 0) [] (f ∷ t / 256 % 256 ∷ t % 256 ∷ []) yes in
+    let yes = eq-eqb t 0 z in
+    let none = cond-true (eqb t 0) [] (f ∷ t / 256 % 256 ∷ t % 256 ∷ []) yes in
     record {
       bytes = again.bytes ∙ ap (λ e. (e ++ entries (suc f) ns) ++ replicate (length bs - length (e ++ entries (suc f) ns)) 0) (sym none);
-      count = again.count ∙ sym (cond_true (eqb t 0) (present ns) (suc (present ns)) yes);
+      count = again.count ∙ sym (cond-true (eqb t 0) (present ns) (suc (present ns)) yes);
     }
 
 with_entry : (ns bs : List ℕ) (f n a b : ℕ) → a < 256 → b < 256 → (a * 256 + b ≡ 0 → ⊥) → Again ns bs (suc f) n → Again ((a * 256 + b) ∷ ns) (f ∷ a ∷ b ∷ bs) f (suc n)
@@ -85,13 +85,13 @@ with_entry ns bs f n a b la lb ne again =
     let high : a ≡ t / 256 % 256 = omega arith in
     let low : b ≡ t % 256 = omega arith in
     let one : f ∷ a ∷ b ∷ [] ≡ cond (eqb t 0) [] (f ∷ t / 256 % 256 ∷ t % 256 ∷ []) =
-    ap (λ x. f ∷ x ∷ b ∷ []) high ∙ ap (λ x. f ∷ t / 256 % 256 ∷ x ∷ []) low ∙ sym (cond_false (eqb t 0) [] (f ∷ t / 256 % 256 ∷ t % 256 ∷ []) no) in
+    ap (λ x. f ∷ x ∷ b ∷ []) high ∙ ap (λ x. f ∷ t / 256 % 256 ∷ x ∷ []) low ∙ sym (cond-false (eqb t 0) [] (f ∷ t / 256 % 256 ∷ t % 256 ∷ []) no) in
     let es = entries (suc f) ns in
     let less : length bs - length es ≡ suc (suc (suc (length bs))) - suc (suc (suc (length es))) = omega arith in
     record {
       bytes =
           ap (λ xs. f ∷ a ∷ b ∷ xs) (again.bytes ∙ ap (λ m. es ++ replicate m 0) less) ∙ ap (λ e. (e ++ es) ++ replicate (suc (suc (suc (length bs))) - length (e ++ es)) 0) one;
-      count = ap suc again.count ∙ sym (cond_false (eqb t 0) (present ns) (suc (present ns)) no);
+      count = ap suc again.count ∙ sym (cond-false (eqb t 0) (present ns) (suc (present ns)) no);
     }
 
 encoded_again : (m f n : ℕ) (bs : List ℕ) → m + f ≡ 64 → ((k : ℕ) → get_or bs k 0 < 256) → Entries f n bs → Again (numbers m f n bs) bs f n
@@ -110,7 +110,7 @@ encoded_again (suc m) f (suc n) (g ∷ a ∷ b ∷ bs) l low e =
     elim (cases_eq g f) [
       | inl same ↦
           (let above = e.0 in
-          let first = sym (cond_true (eqb g f) (a * 256 + b) (told f n bs) (eq_eqb g f same)) in
+          let first = sym (cond-true (eqb g f) (a * 256 + b) (told f n bs) (eq-eqb g f same)) in
           let others = sym (numbers_skip m (suc f) n g a b bs (omega arith)) in
           let rest = encoded_again m (suc f) n bs (omega arith) (λ k. low (suc (suc (suc k)))) (weaken (suc f) (suc g) n bs (omega arith) e.3) in
           let All : List ℕ → Type 0 = λ ns. Again ns (f ∷ a ∷ b ∷ bs) f (suc n) in

@@ -1,7 +1,7 @@
 -- Walking through the entries of an image, looking for a file.
 use Rattle.std.proofs.Common.{◌≡◌, ℕ, suc, ◌+◌, ◌-◌, ◌*◌, ◌<◌, ◌≤◌, min, cond, eqb, List, ◌∷◌, length, get_or, drop, sym, ap, ◌∙◌, arith}
 use Rattle.std.proofs.lemmas.List.{drop_more}
-use Rattle.std.proofs.lemmas.Bool.{cond_true, cond_false, eq_eqb, ne_eqb}
+use Rattle.std.proofs.lemmas.Bool.{cond-true, cond-false, eq-eqb, ne_eqb}
 use Rattle.files.specs.Layout.{told, mapped}
 use Rattle.files.specs.Trips.{mapped_at}
 
@@ -34,14 +34,14 @@ pub walk_more : (bs : List ℕ) (f count i : ℕ) → length bs ≡ 193 → i < 
 walk_more bs f count i long h few ne walk =
     let same : 3 * i + 1 + 3 ≡ 3 * (i + 1) + 1 = omega arith in
     step bs f count i long h few walk
-    ∙ cond_false (eqb (get_or bs (3 * i + 1) 0) f) (get_or bs (3 * i + 1 + 1) 0 * 256 + get_or bs (3 * i + 1 + 2) 0) (told f (count - (i + 1)) (drop (3 * i + 1 + 3) bs)) (ne_eqb (get_or bs (3 * i + 1) 0) f ne)
+    ∙ cond-false (eqb (get_or bs (3 * i + 1) 0) f) (get_or bs (3 * i + 1 + 1) 0 * 256 + get_or bs (3 * i + 1 + 2) 0) (told f (count - (i + 1)) (drop (3 * i + 1 + 3) bs)) (ne_eqb (get_or bs (3 * i + 1) 0) f ne)
     ∙ ap (λ j. told f (count - (i + 1)) (drop j bs)) same
 
 -- the two answers of the walk
 pub walk_found : (bs : List ℕ) (f count i r : ℕ) → length bs ≡ 193 → f < 64 → count ≡ min (get_or bs 0 0) 64 → i < count → get_or bs (3 * i + 1) 0 ≡ f → r ≡ get_or bs (3 * i + 1 + 1) 0 * 256 + get_or bs (3 * i + 1 + 2) 0 → Walk bs f count i → r ≡ get_or (mapped bs) f 0
 walk_found bs f count i r long low c h e read walk =
     read
-    ∙ sym (cond_true (eqb (get_or bs (3 * i + 1) 0) f) (get_or bs (3 * i + 1 + 1) 0 * 256 + get_or bs (3 * i + 1 + 2) 0) (told f (count - (i + 1)) (drop (3 * i + 1 + 3) bs)) (eq_eqb (get_or bs (3 * i + 1) 0) f e))
+    ∙ sym (cond-true (eqb (get_or bs (3 * i + 1) 0) f) (get_or bs (3 * i + 1 + 1) 0 * 256 + get_or bs (3 * i + 1 + 2) 0) (told f (count - (i + 1)) (drop (3 * i + 1 + 3) bs)) (eq-eqb (get_or bs (3 * i + 1) 0) f e))
     ∙ sym (step bs f count i long h (omega arith) walk) ∙ ap (λ n. told f n (drop 1 bs)) c ∙ sym (mapped_at bs f low)
 
 pub walk_all : (bs : List ℕ) (f count i : ℕ) → f < 64 → count ≡ min (get_or bs 0 0) 64 → count ≤ i → Walk bs f count i → 0 ≡ get_or (mapped bs) f 0

@@ -2,7 +2,7 @@
 use Rattle.std.specs.Prelude.{◌≡◌, ℕ, zero, suc, ◌+◌, ◌-◌, ◌*◌, ◌/◌, ◌%◌, ◌<◌, ◌≤◌, min, Bool, true, false, cond, List, [], ◌∷◌, ◌++◌, length, drop, replicate, ◌==◌, slice_index, refl}
 use Rattle.std.proofs.Common.{sym, ap, ◌∙◌, arith}
 use Rattle.std.proofs.lemmas.List.{ext_get_or, get_or_past}
-use Rattle.std.proofs.lemmas.Bool.{cond_true, cond_false, eq_eqb, ne_eqb, eqb_true}
+use Rattle.std.proofs.lemmas.Bool.{cond-true, cond-false, eq-eqb, ne_eqb, eqb-true}
 use Rattle.files.specs.Layout.{Map, entries, present, padded, layout, told, numbers, mapped}
 
 pub length_numbers : (m f n : ℕ) (bs : List ℕ) → length (numbers m f n bs) ≡ m
@@ -39,7 +39,7 @@ told_below f g (n ∷ ns) zs h = by (told_below f (suc g) ns zs (omega arith)) (
   where
     by : told f (present ns) (entries (suc g) ns ++ zs) ≡ 0 → (b : Bool) → told f (cond b (present ns) (suc (present ns))) (cond b [] (g ∷ n / 256 % 256 ∷ n % 256 ∷ []) ++ entries (suc g) ns ++ zs) ≡ 0
     by rest true = rest
-    by rest false = cond_false (g == f) (n / 256 % 256 * 256 + n % 256) (told f (present ns) (entries (suc g) ns ++ zs)) (ne_eqb g f (λ e. omega arith)) ∙ rest
+    by rest false = cond-false (g == f) (n / 256 % 256 * 256 + n % 256) (told f (present ns) (entries (suc g) ns ++ zs)) (ne_eqb g f (λ e. omega arith)) ∙ rest
 
 pub digits : (n : ℕ) → n < 65536 → n / 256 % 256 * 256 + n % 256 ≡ n
 digits n h = omega arith
@@ -51,9 +51,9 @@ told_at g k [] zs low = sym (get_or_past [] k 0 (omega arith))
 told_at g zero (n ∷ ns) zs low = by (told_below (g + 0) (suc g) ns zs (omega arith)) (n == 0) refl
   where
     by : told (g + 0) (present ns) (entries (suc g) ns ++ zs) ≡ 0 → (b : Bool) → (n == 0) ≡ b → told (g + 0) (cond b (present ns) (suc (present ns))) (cond b [] (g ∷ n / 256 % 256 ∷ n % 256 ∷ []) ++ entries (suc g) ns ++ zs) ≡ n
-    by rest true e = rest ∙ sym (eqb_true n 0 e)
+    by rest true e = rest ∙ sym (eqb-true n 0 e)
     by rest false e =
-        cond_true (g == g + 0) (n / 256 % 256 * 256 + n % 256) (told (g + 0) (present ns) (entries (suc g) ns ++ zs)) (eq_eqb g (g + 0) (omega arith)) ∙ digits n (low 0)
+        cond-true (g == g + 0) (n / 256 % 256 * 256 + n % 256) (told (g + 0) (present ns) (entries (suc g) ns ++ zs)) (eq-eqb g (g + 0) (omega arith)) ∙ digits n (low 0)
 told_at g (suc k) (n ∷ ns) zs low =
     let same : g + suc k ≡ suc g + k = omega arith in
     by (ap (λ f. told f (present ns) (entries (suc g) ns ++ zs)) same ∙ told_at (suc g) k ns zs (λ i. low (suc i))) (n == 0)
@@ -61,7 +61,7 @@ told_at g (suc k) (n ∷ ns) zs low =
     by : told (g + suc k) (present ns) (entries (suc g) ns ++ zs) ≡ slice_index ns k → (b : Bool) → told (g + suc k) (cond b (present ns) (suc (present ns))) (cond b [] (g ∷ n / 256 % 256 ∷ n % 256 ∷ []) ++ entries (suc g) ns ++ zs) ≡ slice_index ns k
     by rest true = rest
     by rest false =
-        cond_false (g == g + suc k) (n / 256 % 256 * 256 + n % 256) (told (g + suc k) (present ns) (entries (suc g) ns ++ zs)) (ne_eqb g (g + suc k) (λ e. omega arith)) ∙ rest
+        cond-false (g == g + suc k) (n / 256 % 256 * 256 + n % 256) (told (g + suc k) (present ns) (entries (suc g) ns ++ zs)) (ne_eqb g (g + suc k) (λ e. omega arith)) ∙ rest
 
 pub present_low : (ns : List ℕ) → present ns ≤ length ns
 unfolding present

@@ -2,7 +2,7 @@
 use Rattle.std.proofs.Common.{◌≡◌, ℕ, ◌+◌, ◌-◌, ◌<◌, List, [], ◌∷◌, ◌++◌, length, take, set, sym, ap, ◌∙◌, inl, inr, arith}
 use borrow.Rule.Slice.PartMut.{put_mid}
 use lib.Seq.{take-set-lt}
-use Rattle.std.proofs.lemmas.List.{length-take, take_take, take_all, take_more_set}
+use Rattle.std.proofs.lemmas.List.{length-take, take-take, take_all, take_more_set}
 use Rattle.std.proofs.lemmas.Slice.{take-put_mid}
 use Rattle.std.proofs.lemmas.Bool.{cases_lt}
 
@@ -27,7 +27,7 @@ pub set_front : {X : Type 0} (n : ℕ) (xs : List X) (i : ℕ) (x : X) → i < l
 set_front n xs i x h = take-set-lt _ _ _ _ (in_list n xs i h).0
 
 pub cut_front : {X : Type 0} (m n : ℕ) (xs : List X) → m < n → take m xs ≡ take m (take n xs)
-cut_front m n xs h = sym (take_take m n xs (omega arith))
+cut_front m n xs h = sym (take-take m n xs (omega arith))
 
 -- after a copy to the end of the front
 pub extended : {X : Type 0} (n b : ℕ) (xs ys zs : List X) → b ≡ length (take n xs) → ys ≡ zs → take (b + length zs) (put_mid b (b + length zs - b) xs ys) ≡ take n xs ++ zs

@@ -1,6 +1,6 @@
 -- A step adds entries of its own line alone, at most one by an act, and at least one where its line had made no act. Assumes nothing.
-use Rattle.std.proofs.Common.{◌≡◌, ℕ, zero, suc, ◌<◌, ◌≤◌, Bool, true, false, cond, not, ◌&&◌, eqb, leb, List, [], ◌∷◌, ◌++◌, length, get_or, Some, None, Option, sym, refl, ◌∙◌, subst, append_assoc, append_nil, arith}
-use Rattle.std.proofs.lemmas.Bool.{ne_eqb, eq_eqb}
+use Rattle.std.proofs.Common.{◌≡◌, ℕ, zero, suc, ◌<◌, ◌≤◌, Bool, true, false, cond, not, ◌&&◌, eqb, leb, List, [], ◌∷◌, ◌++◌, length, get_or, Some, None, Option, sym, refl, ◌∙◌, subst, append_assoc, append-nil, arith}
+use Rattle.std.proofs.lemmas.Bool.{ne_eqb, eq-eqb}
 use Rattle.model.specs.declared.command.Kind.{Kind}
 use Rattle.model.specs.declared.command.Kind.TheVariants.{Copy, Join, Gather, Choose, Tally, Check}
 use Rattle.model.specs.declared.command.Command.{Command}
@@ -31,7 +31,7 @@ pub record Adds (n l : ℕ) (es ds : List Entry) : Type 0 where
   pub few : length new ≤ n
 
 adds_none : (n l : ℕ) (es : List Entry) → Adds n l es es
-adds_none n l es = record { new = []; is = sym (append_nil es); of = tt; few = omega arith }
+adds_none n l es = record { new = []; is = sym (append-nil es); of = tt; few = omega arith }
 
 adds_one : (n l : ℕ) (es : List Entry) (e : Entry) → e.line ≡ l → Adds (suc n) l es (es ++ e ∷ [])
 adds_one n l es e h = record { new = e ∷ []; is = refl; of = (h, tt); few = omega arith }
@@ -145,7 +145,7 @@ abbrev Seen : ℕ → List Entry → Type 0
 Seen l es = fresh l es ≡ false
 
 seen_one : (l : ℕ) (es : List Entry) (e : Entry) → e.line ≡ l → Seen l (es ++ e ∷ [])
-seen_one l es e h = fresh_more l es (e ∷ []) ∙ rw (eq_eqb l e.line (sym h)) (no (fresh l es))
+seen_one l es e h = fresh_more l es (e ∷ []) ∙ rw (eq-eqb l e.line (sym h)) (no (fresh l es))
   where
     no : (b : Bool) → (b && false) ≡ false
     no true = refl

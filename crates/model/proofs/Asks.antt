@@ -1,6 +1,6 @@
 -- A policy's front is served: the bounds follow from what an answer means, ask by ask.
 use Rattle.std.proofs.Common.{◌≡◌, ℕ, ◌+◌, ◌*◌, ◌<◌, ◌≤◌, Bool, ◌⊎◌, inl, inr, ⊎_elim, add-mul, one-mul, arith}
-use Rattle.std.proofs.lemmas.Bool.{cases_eq, eq_eqb, ne_eqb}
+use Rattle.std.proofs.lemmas.Bool.{cases_eq, eq-eqb, ne_eqb}
 use Rattle.model.specs.Policies.{Answered}
 use Rattle.model.specs.Asks.{Asks, none, then, number, fronts, row}
 
@@ -26,20 +26,20 @@ served left patience front answer before after a = ⊎_elim
 row_passes : {patience front start end : ℕ} (h : Asks patience front start end) → row h ≤ end
 row_passes none = omega arith
 row_passes {patience} {front} {start} {end} (then {before = before} h left answer a) = ⊎_elim
-    (λ t. rw (eq_eqb answer front t.is) (omega arith))
+    (λ t. rw (eq-eqb answer front t.is) (omega arith))
     (λ p. rw (ne_eqb answer front p.isnt) (omega (arith, row_passes h, p.more)))
     (served left patience front answer before end a)
 
 pub never_longer : {patience front start end : ℕ} (h : Asks patience front start end) → row h ≤ patience
 never_longer none = omega arith
 never_longer {patience} {front} {start} {end} (then {before = before} h left answer a) = ⊎_elim
-    (λ t. rw (eq_eqb answer front t.is) (omega arith))
+    (λ t. rw (eq-eqb answer front t.is) (omega arith))
     (λ p. rw (ne_eqb answer front p.isnt) (omega (arith, row_passes h, p.bound)))
     (served left patience front answer before end a)
 
 pub always_served : {patience front start end : ℕ} (h : Asks patience front start end) → number h ≤ fronts h * (patience + 1) + end
 always_served none = omega arith
 always_served {patience} {front} {start} {end} (then {before = before} h left answer a) = ⊎_elim
-    (λ t. rw (eq_eqb answer front t.is) (omega (arith, always_served h, t.zero, t.bound, add-mul (fronts h) 1 (patience + 1), one-mul (patience + 1))))
+    (λ t. rw (eq-eqb answer front t.is) (omega (arith, always_served h, t.zero, t.bound, add-mul (fronts h) 1 (patience + 1), one-mul (patience + 1))))
     (λ p. rw (ne_eqb answer front p.isnt) (omega (arith, always_served h, p.more)))
     (served left patience front answer before end a)

@@ -1,7 +1,7 @@
 -- The book has at most one record of a command, and no more records than places.
-use Rattle.std.proofs.Common.{◌≡◌, ℕ, zero, suc, ◌≤◌, Bool, true, false, cond, ltb, List, [], ◌∷◌, ◌++◌, length, set, Some, None, Ok, Err, refl, ap, ◌∙◌, arith, length_set}
+use Rattle.std.proofs.Common.{◌≡◌, ℕ, zero, suc, ◌≤◌, Bool, true, false, cond, ltb, List, [], ◌∷◌, ◌++◌, length, set, Some, None, Ok, Err, refl, ap, ◌∙◌, arith, length-set}
 use Rattle.std.proofs.lemmas.List.{length-append}
-use Rattle.std.proofs.lemmas.Bool.{or_parts, or_from, ltb_true}
+use Rattle.std.proofs.lemmas.Bool.{or_parts, or_from, ltb-true}
 use Rattle.model.specs.declared.command.Command.{Command}
 use Rattle.model.specs.declared.run.Entry.{Entry}
 use Rattle.model.specs.Contents.{Content, Pool}
@@ -119,7 +119,7 @@ keep_good cs places q rs g = by (has_record q.command rs) refl (ltb (length rs) 
   where
     by : (b : Bool) → has_record q.command rs ≡ b → (c : Bool) → ltb (length rs) places ≡ c → Good places (cond b (replace q rs) (cond c (rs ++ q ∷ []) (evict cs q rs)))
     by true d c e = (replace_unique q rs g.0, omega (arith, replace_length q rs, g.1))
-    by false d true e = (append_unique q rs g.0 d, omega (arith, length-append rs (q ∷ []), ltb_true (length rs) places e))
+    by false d true e = (append_unique q rs g.0 d, omega (arith, length-append rs (q ∷ []), ltb-true (length rs) places e))
     by false d false e = (evict_unique cs q rs g.0 d, omega (arith, evict_length cs q rs, g.1))
 
 keeps_good : (cs : List Command) (places : ℕ) (es : List Entry) (l : ℕ) (left : List Command) (rs : List Record) → Good places rs → Good places (keeps cs places es l left rs)
@@ -137,7 +137,7 @@ module _ (w v : World) (g : Good w.book_places w.records) where
   good_change (same e) = rw e g
   good_change (lay_done hs s c e i) = rw i g
   good_change (load_done t p c e n i) = rw i (hints_unique t.contents p t.records w.records g.0, n)
-  good_change (audit_done k r c e i) = rw i (audit_unique w.pool w.records k r e g.0, omega (arith, length_set w.records k (judged w.pool r), g.1))
+  good_change (audit_done k r c e i) = rw i (audit_unique w.pool w.records k r e g.0, omega (arith, length-set w.records k (judged w.pool r), g.1))
   good_change (back_done c i) = rw i g
   good_change (keep_done c s a i) = rw i (keeps_good w.notes.commands w.book_places w.entries 0 w.notes.commands w.records g)
 

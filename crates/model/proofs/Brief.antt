@@ -1,6 +1,6 @@
 -- No command reads more than 16 times. Assumes nothing.
-use Rattle.std.proofs.Common.{◌≡◌, ℕ, zero, suc, ◌+◌, ◌<◌, ◌≤◌, Bool, true, false, cond, leb, List, [], ◌∷◌, length, drop, Some, None, Option, sym, refl, ap, ◌∙◌, arith, length_drop}
-use Rattle.std.proofs.lemmas.Bool.{leb_true}
+use Rattle.std.proofs.Common.{◌≡◌, ℕ, zero, suc, ◌+◌, ◌<◌, ◌≤◌, Bool, true, false, cond, leb, List, [], ◌∷◌, length, drop, Some, None, Option, sym, refl, ap, ◌∙◌, arith, length-drop}
+use Rattle.std.proofs.lemmas.Bool.{leb-true}
 use Rattle.model.specs.declared.command.Kind.{Kind}
 use Rattle.model.specs.declared.command.Kind.TheVariants.{Copy, Join, Gather, Choose, Tally, Check}
 use Rattle.model.specs.declared.command.Command.{Command}
@@ -36,7 +36,7 @@ turn_brief b f xs fs e = by (drop (length xs) fs) refl e
   where
     by : (r : List ℕ) → drop (length xs) fs ≡ r → next_listed b xs r ≡ reads f → length xs < length fs
     by [] d k = absurd (unlike_writes _ _ _ k)
-    by (g ∷ gs) d k = omega (arith, sym (length_drop (length xs) fs) ∙ ap length d)
+    by (g ∷ gs) d k = omega (arith, sym (length-drop (length xs) fs) ∙ ap length d)
 
 gather_brief : (b f : ℕ) (l : Content) (xs : List Content) → gathers b xs (listed l) ≡ reads f → length xs < 15
 gather_brief b f l xs e = by (leb (length l) 30) refl (pairs l) refl e
@@ -44,7 +44,7 @@ gather_brief b f l xs e = by (leb (length l) 30) refl (pairs l) refl e
     by : (c : Bool) → leb (length l) 30 ≡ c → (o : Option (List ℕ)) → pairs l ≡ o → gathers b xs (cond c o None) ≡ reads f → length xs < 15
     by false d o i k = absurd (unlike_bad f k)
     by true d None i k = absurd (unlike_bad f k)
-    by true d (Some fs) i k = omega (arith, leb_true (length l) 30 d, halves l fs i, turn_brief b f xs fs k)
+    by true d (Some fs) i k = omega (arith, leb-true (length l) 30 d, halves l fs i, turn_brief b f xs fs k)
 
 kind_brief : (k : Kind) (a b c d f : ℕ) (xs : List Content) → next k a b c d xs ≡ reads f → length xs < 16
 kind_brief Copy a b c d f [] e = omega arith

@@ -1,6 +1,6 @@
 -- What a call can do to the world, case by case, so that a law over pasts is shown for each case once. Assumes nothing.
 use Rattle.std.proofs.Common.{◌≡◌, ℕ, ◌≤◌, Bool, true, false, leb, List, length, set, Some, None, Ok, Err, Option, Result, refl, ap, ◌∙◌, arith}
-use Rattle.std.proofs.lemmas.Bool.{both_ways, leb_true}
+use Rattle.std.proofs.lemmas.Bool.{both_ways, leb-true}
 use Rattle.model.specs.declared.refusal.Refusal.{Refusal}
 use Rattle.model.specs.declared.refusal.Refusal.TheVariants.{LinesLeft}
 use Rattle.model.specs.declared.run.Stop.{Stop}
@@ -50,7 +50,7 @@ module _ (w v : World) where
     where
       placed : (t : Traced) (p : Pool) → w.is_open ≡ false → puts t.contents w.pool ≡ Some p →
           (c : Bool) → leb (length (hints t.contents p t.records w.records)) w.book_places ≡ c → Placed c p (hints t.contents p t.records w.records) a w v → Change w v
-      placed t p i e true f d = load_done t p i e (leb_true _ _ f) d.1
+      placed t p i e true f d = load_done t p i e (leb-true _ _ f) d.1
       placed t p i e false f d = same d.1
 
       pooled : (t : Traced) → w.is_open ≡ false → (o : Option Pool) → puts t.contents w.pool ≡ o → Pooled t o a w v → Change w v

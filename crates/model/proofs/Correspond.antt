@@ -1,7 +1,7 @@
 -- An act on numbers is an act of the trace, told by contents, and the other way round. Assumes nothing.
-use Rattle.std.proofs.Common.{◌≡◌, ℕ, zero, suc, ◌<◌, ◌≤◌, Bool, true, false, cond, ◌&&◌, eqb, ltb, leb, List, [], ◌∷◌, ◌++◌, length, get_or, set, Some, None, Option, sym, refl, ap, ◌∙◌, subst, arith, length_set, get_or-set_other, get_or_set_same}
+use Rattle.std.proofs.Common.{◌≡◌, ℕ, zero, suc, ◌<◌, ◌≤◌, Bool, true, false, cond, ◌&&◌, eqb, ltb, leb, List, [], ◌∷◌, ◌++◌, length, get_or, set, Some, None, Option, sym, refl, ap, ◌∙◌, subst, arith, length-set, get_or-set_other, get_or-set_same}
 use Rattle.std.proofs.lemmas.List.{set_past}
-use Rattle.std.proofs.lemmas.Bool.{le_leb, eqb_true, eqb_false, ltb_true, ltb-false, ne_eqb, not_true, not_from_false}
+use Rattle.std.proofs.lemmas.Bool.{le-leb, eqb-true, eqb-false, ltb-true, ltb-false, ne_eqb, not-true, not_from_false}
 use Rattle.model.specs.declared.command.Command.{Command}
 use Rattle.model.specs.declared.run.Entry.{Entry}
 use Rattle.model.specs.declared.run.Hazard.{Hazard}
@@ -39,9 +39,9 @@ set_get : (fs : List ℕ) (f g k : ℕ) → get_or (set fs f k) g 0 ≡ cond (eq
 set_get fs f g k = by (eqb g f) refl (ltb f (length fs)) refl
   where
     by : (b : Bool) → eqb g f ≡ b → (c : Bool) → ltb f (length fs) ≡ c → get_or (set fs f k) g 0 ≡ cond (b && c) k (get_or fs g 0)
-    by true d true e = rw (eqb_true g f d) (get_or_set_same fs f k 0 (ltb_true _ _ e))
+    by true d true e = rw (eqb-true g f d) (get_or-set_same fs f k 0 (ltb-true _ _ e))
     by true d false e = ap (λ x. get_or x g 0) (set_past fs f k (ltb-false _ _ e))
-    by false d c e = get_or-set_other fs f g k 0 (eqb_false g f d)
+    by false d c e = get_or-set_other fs f g k 0 (eqb-false g f d)
 
 told_some : (p : Pool) (n : ℕ) (x : Content) → told p n ≡ Some x → (holds p n ≡ true) × (content p n ≡ x)
 told_some p n x e = by (holds p n) refl e
@@ -62,7 +62,7 @@ told_grown p q g (suc n) h =
     told_holds q (suc n) j.0 ∙ ap Some j.1 ∙ sym (told_holds p (suc n) k)
 
 pub known_is : (p : Pool) (n : ℕ) → n ≤ count p → known p n ≡ n
-known_is p n h = rw (le_leb n (count p) h)
+known_is p n h = rw (le-leb n (count p) h)
 
 module _ (cs : List Command) (fs : List ℕ) (p₀ : Pool) where
   abbrev w : Start
@@ -140,7 +140,7 @@ module _ (cs : List Command) (fs : List ℕ) (p₀ : Pool) where
         places = b.places;
         bytes = b.bytes;
         files = write_files;
-        width = b.width ∙ sym (length_set s.files f (suc n));
+        width = b.width ∙ sym (length-set s.files f (suc n));
         filed = write_filed;
         numbered = numbered_more p' s.entries writes_it (numbered_grown s.pool p' (grows_put s.pool x) s.entries b.numbered) holds_it;
       }
@@ -166,7 +166,7 @@ module _ (cs : List Command) (fs : List ℕ) (p₀ : Pool) where
       read_acted f d None m true zs u us x y k = not_goes k
       read_acted f d None m false zs true us x y k = not_goes k
       read_acted f d None m false zs false us x y k =
-          let above : 1 ≤ get_or s.files f 0 = let ne = eqb_false _ _ zs in omega arith in
+          let above : 1 ≤ get_or s.files f 0 = let ne = eqb-false _ _ zs in omega arith in
           let h = holds_from s.pool (get_or s.files f 0) above (b.filed f) in
           subst (Acted l) (goes_is k) (record {
             did = rd l f (content s.pool (get_or s.files f 0));
@@ -233,7 +233,7 @@ module _ (cs : List Command) (fs : List ℕ) (p₀ : Pool) where
         let d : wants cs l (xs_of l) ≡ reads f = ap (wants cs l) (sym (seen_is l)) ∙ o.wants in
         let here : eqb (get_or s.files f 0) 0 ≡ false = ne_eqb _ _ (λ e. omega (arith, fits.0)) in
         let u : is_bad (wants cs l (xs_of l ++ content s.pool (get_or s.files f 0) ∷ [])) ≡ false =
-        ap (λ y. is_bad (wants cs l (xs_of l ++ y ∷ []))) known.1 ∙ ap (λ ys. is_bad (wants cs l (ys ++ x ∷ []))) (sym (seen_is l)) ∙ not_true _ o.fine in
+        ap (λ y. is_bad (wants cs l (xs_of l ++ y ∷ []))) known.1 ∙ ap (λ ys. is_bad (wants cs l (ys ++ x ∷ []))) (sym (seen_is l)) ∙ not-true _ o.fine in
         let quiet : hazard (reads_it l f) s.entries ≡ None = quiet_met (reads_it l f) s.entries (sym (read_clash l f) ∙ ap (λ y. clash (rd l f y) t) known.1 ∙ o.clear) in
         record {
           after = noted (reads_it l f) s;

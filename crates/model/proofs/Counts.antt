@@ -1,7 +1,7 @@
 -- The lines that a run's steps executed and skipped are the lines that made an act.
-use Rattle.std.proofs.Common.{◌≡◌, ℕ, zero, suc, ◌+◌, ◌<◌, ◌≤◌, Bool, true, false, cond, not, ◌&&◌, ◌||◌, eqb, ltb, List, [], ◌∷◌, ◌++◌, length, Some, None, Ok, Option, sym, refl, ap, ◌∙◌, subst, ⊎_elim, append_nil, arith}
+use Rattle.std.proofs.Common.{◌≡◌, ℕ, zero, suc, ◌+◌, ◌<◌, ◌≤◌, Bool, true, false, cond, not, ◌&&◌, ◌||◌, eqb, ltb, List, [], ◌∷◌, ◌++◌, length, Some, None, Ok, Option, sym, refl, ap, ◌∙◌, subst, ⊎_elim, append-nil, arith}
 use Rattle.std.proofs.lemmas.List.{length-append}
-use Rattle.std.proofs.lemmas.Bool.{cases_Bool, cases_eq, cases_lt, both_ways, eq_eqb, ne_eqb, lt_ltb, or_right}
+use Rattle.std.proofs.lemmas.Bool.{cases_Bool, cases_eq, cases_lt, both_ways, eq-eqb, ne_eqb, lt-ltb, or_right}
 use Rattle.model.specs.declared.command.Command.{Command}
 use Rattle.model.specs.declared.run.Entry.{Entry}
 use Rattle.model.specs.declared.answers.Stepped.{Stepped}
@@ -121,8 +121,8 @@ module _ {m n : ℕ} {x : World} {k : ℕ} {v w : World} (cs : List Command) (h 
   grows f = by adds.new adds.is
     where
       by : (new : List Entry) → ds ≡ es ++ new → grew ≡ true
-      by [] e = absurd (both_ways (fresh l es) (sym (ap (fresh l) (e ∙ append_nil es)) ∙ now_acted) f)
-      by (e ∷ new) i = lt_ltb (length es) (length ds) (omega (arith, ap length i, length-append es (e ∷ new)))
+      by [] e = absurd (both_ways (fresh l es) (sym (ap (fresh l) (e ∙ append-nil es)) ∙ now_acted) f)
+      by (e ∷ new) i = lt-ltb (length es) (length ds) (omega (arith, ap length i, length-append es (e ∷ new)))
 
   abbrev Now : Bool → Type 0
   Now b =
@@ -164,7 +164,7 @@ module _ {m n : ℕ} {x : World} {k : ℕ} {v w : World} (cs : List Command) (h 
 
   -- the line's own test, where it has acted
   own_on : grew ≡ true → then_acted false l ≡ true
-  own_on g = rw (eq_eqb l l refl, g)
+  own_on g = rw (eq-eqb l l refl, g)
 
   own_kept : acted l h ≡ true → then_acted false l ≡ true
   own_kept e = rw e (or_right _ true refl)

@@ -1,6 +1,6 @@
 -- In a run that has not stopped, each file that was read still has the number that was read.
 use Rattle.std.proofs.Common.{◌≡◌, ℕ, suc, ◌<◌, Bool, true, false, cond, not, ◌&&◌, eqb, List, [], ◌∷◌, ◌++◌, length, get_or, set, None, sym, refl, ◌∙◌, ⊎_elim, arith, get_or-set_other}
-use Rattle.std.proofs.lemmas.Bool.{both_ways, or_parts, and_from, eqb_false, eq_eqb}
+use Rattle.std.proofs.lemmas.Bool.{both_ways, or_parts, and_from, eqb-false, eq-eqb}
 use Rattle.model.specs.declared.run.Entry.{Entry}
 use Rattle.model.specs.declared.answers.Stepped.{Stepped}
 use Rattle.model.specs.Commands.{wants}
@@ -34,7 +34,7 @@ current_set fs n w (e ∷ es) q h = let a = or_parts (hit n e) (clashes n es) q 
     apart b c i j k m q = let x = or_parts (n.wrote && (e.wrote && eqb n.file e.file)) _ q in rw (i, j, k, m) at (or_parts (n.wrote && (not e.wrote && eqb n.file e.file)) _ x.1).0
 
     here : hit n e ≡ false → e.wrote ≡ false → get_or (set fs n.file n.number) e.file 0 ≡ e.number
-    here q r = get_or-set_other fs n.file e.file n.number 0 (λ i. eqb_false _ _ (apart n.wrote e.wrote refl w refl r q) (sym i)) ∙ h.0 r
+    here q r = get_or-set_other fs n.file e.file n.number 0 (λ i. eqb-false _ _ (apart n.wrote e.wrote refl w refl r q) (sym i)) ∙ h.0 r
 
 pub match_current : (fs : List ℕ) (l : ℕ) (es : List Entry) → Current fs es → match fs (reads_of l es) ≡ true
 match_current fs l [] h = refl
@@ -42,7 +42,7 @@ match_current fs l (e ∷ es) h = by (eqb l e.line) e.wrote refl (match_current 
   where
     by : (b c : Bool) → e.wrote ≡ c → match fs (reads_of l es) ≡ true → match fs (cond b (cond c (reads_of l es) (use_of e ∷ reads_of l es)) (reads_of l es)) ≡ true
     by true true w ih = ih
-    by true false w ih = and_from _ _ (eq_eqb _ _ (h.0 w)) ih
+    by true false w ih = and_from _ _ (eq-eqb _ _ (h.0 w)) ih
     by false c w ih = ih
 
 -- ONE STEP

@@ -1,5 +1,5 @@
 -- The log as a trace, told by contents. Assumes nothing.
-use Rattle.std.proofs.Common.{◌≡◌, ℕ, Bool, true, false, cond, not, ◌&&◌, ◌||◌, eqb, ltb, List, [], ◌∷◌, ◌++◌, Some, None, Option, sym, refl, ◌∙◌, append_assoc, append_nil, arith}
+use Rattle.std.proofs.Common.{◌≡◌, ℕ, Bool, true, false, cond, not, ◌&&◌, ◌||◌, eqb, ltb, List, [], ◌∷◌, ◌++◌, Some, None, Option, sym, refl, ◌∙◌, append_assoc, append-nil, arith}
 use Rattle.std.proofs.lemmas.Bool.{or_parts, or_from, true≢false}
 use Rattle.model.specs.declared.run.Entry.{Entry}
 use Rattle.model.specs.declared.run.HazardKind.TheVariants.{WriteWrite, ReadWrite, SpeculativeWriteRead}
@@ -46,7 +46,7 @@ trace_grown p q g t (e ∷ es) h = rw (grows_holds p q g e.number h.0).1 (trace_
 
 module _ (p : Pool) (l : ℕ) where
   pub seen_trace : (t : Trace) (es : List Entry) → seen (mine l (trace p t es)) ≡ seen (mine l t) ++ has_read p l es
-  seen_trace t [] = sym (append_nil _)
+  seen_trace t [] = sym (append-nil _)
   seen_trace t (e ∷ es) = seen_trace (event p e ∷ t) es ∙ by e.wrote (eqb l e.line) refl
     where
       by : (b q : Bool) → eqb l e.line ≡ q →
@@ -84,7 +84,7 @@ acts_in (a ∷ m) = acts_in m ++ act_of a ∷ []
 
 module _ (p : Pool) (l : ℕ) where
   pub acts_trace : (t : Trace) (es : List Entry) → Numbered p es → acts_in (mine l (trace p t es)) ≡ acts_in (mine l t) ++ acts_of p l es
-  acts_trace t [] h = sym (append_nil _)
+  acts_trace t [] h = sym (append-nil _)
   acts_trace t (e ∷ es) h = acts_trace (event p e ∷ t) es h.1 ∙ rw h.0 (by e.wrote (eqb l e.line) refl)
     where
       by : (b q : Bool) → eqb l e.line ≡ q →

@@ -1,7 +1,7 @@
 -- What every pool keeps under putting, and so under acts, lay and load. Assumes nothing.
 use Rattle.std.proofs.Common.{◌≡◌, ℕ, zero, suc, ◌+◌, ◌<◌, ◌≤◌, Bool, true, false, cond, eqb, leb, List, [], ◌∷◌, ◌++◌, length, get_or, take, set, Some, None, Option, refl, ap, ◌∙◌, subst, ⊎_elim, arith}
-use Rattle.std.proofs.lemmas.List.{length-append, take_all, take-append-le, get_or_append_left, get_or_append_add}
-use Rattle.std.proofs.lemmas.Bool.{cases_lt, and_parts, leb_true}
+use Rattle.std.proofs.lemmas.List.{length-append, take_all, take-append-le, get_or_append_left, get_or-append-add}
+use Rattle.std.proofs.lemmas.Bool.{cases_lt, and_parts, leb-true}
 use Rattle.model.specs.declared.run.Entry.{Entry}
 use Rattle.model.specs.declared.run.Hazard.{Hazard}
 use Rattle.model.specs.declared.run.Fault.TheVariants.{TooLong, Absent, BadList}
@@ -23,7 +23,7 @@ short_put p x h = by (mem x p.contents) (fits p x) refl
     last : leb (length x) 4096 ≡ true → (n : ℕ) → n < length (p.contents ++ x ∷ []) → length (get_or (p.contents ++ x ∷ []) n []) ≤ 4096
     last small n lt = ⊎_elim
         (λ (low : n < length p.contents). rw (get_or_append_left p.contents (x ∷ []) [] n low) (h n low))
-        (λ (high : length p.contents ≤ n). let same : n ≡ length p.contents + 0 = omega (arith, length-append p.contents (x ∷ [])) in rw (same, get_or_append_add p.contents (x ∷ []) 0 []) (leb_true _ _ small))
+        (λ (high : length p.contents ≤ n). let same : n ≡ length p.contents + 0 = omega (arith, length-append p.contents (x ∷ [])) in rw (same, get_or-append-add p.contents (x ∷ []) 0 []) (leb-true _ _ small))
         (cases_lt n (length p.contents))
 
     small_of : fits p x ≡ true → leb (length x) 4096 ≡ true
@@ -57,7 +57,7 @@ fine_put p x h = let in_room = by (mem x p.contents) (fits p x) (λ f. f) in rec
     grown f =
         let b = and_parts _ (leb (used p.contents + length x) p.room) f in
         let c = and_parts (leb (length x) 4096) (leb (count p + 1) p.places) b.0 in
-        (omega (arith, length-append p.contents (x ∷ []), leb_true _ _ c.1), omega (arith, used_end p.contents x, leb_true _ _ b.1))
+        (omega (arith, length-append p.contents (x ∷ []), leb-true _ _ c.1), omega (arith, used_end p.contents x, leb-true _ _ b.1))
 
     by : (b c : Bool) → (c ≡ true → fits p x ≡ true) →
         (length (cond b p.contents (cond c (p.contents ++ x ∷ []) p.contents)) ≤ p.places) × (used (cond b p.contents (cond c (p.contents ++ x ∷ []) p.contents)) ≤ p.room)

@@ -1,7 +1,7 @@
 -- The records that a kept run gives are true. Assumes nothing.
 use Rattle.std.proofs.Common.{◌≡◌, ℕ, suc, ◌+◌, ◌<◌, Bool, true, false, cond, ◌&&◌, ◌||◌, eqb, ltb, List, [], ◌∷◌, ◌++◌, length, sym, refl, ◌∙◌, arith}
-use Rattle.std.proofs.lemmas.Slice.Eq.{bytes_eq_Decides}
-use Rattle.std.proofs.lemmas.Bool.{both_ways, and_from, eqb_true, eq_eqb, true≢false}
+use Rattle.std.proofs.lemmas.Slice.Eq.{bytes_eq-Decides}
+use Rattle.std.proofs.lemmas.Bool.{both_ways, and_from, eqb-true, eq-eqb, true≢false}
 use Rattle.model.specs.declared.command.Command.{Command}
 use Rattle.model.specs.declared.run.Entry.{Entry}
 use Rattle.model.specs.declared.record.Standing.TheVariants.{Hint, Own}
@@ -29,7 +29,7 @@ told_mine w [] r l = tt
 told_mine w (a ∷ t) r l = by (eqb l (line a)) refl (told_mine w t r.1 l)
   where
     by : (q : Bool) → eqb l (line a) ≡ q → Told (w.want l) (mine l t) → Told (w.want l) (cond q (a ∷ mine l t) (mine l t))
-    by true e ih = let same = eqb_true l (line a) e in (rw same r.0.wants, rw same r.0.still, ih)
+    by true e ih = let same = eqb-true l (line a) e in (rw same r.0.wants, rw same r.0.still, ih)
     by false e ih = ih
 
 line_event : (p : Pool) (e : Entry) → line (event p e) ≡ e.line
@@ -78,12 +78,12 @@ module _ (p : Pool) (k : List Content → Want) (l : ℕ) where
       by true q true b ih g =
           let gone = reads_gone es (event p e ∷ t) (rw (mine_event e t, q, b)) h in
           let asked = (told_here e es t q h).0 in
-          rw (gone, n.0, asked, b, eq_eqb e.file e.file refl, (bytes_eq_Decides (content p e.number) (content p e.number)).1 refl)
+          rw (gone, n.0, asked, b, eq-eqb e.file e.file refl, (bytes_eq-Decides (content p e.number) (content p e.number)).1 refl)
       by true q false b ih g =
           let asked = (told_here e es t q h).0 in
           let more : seen (mine l (event p e ∷ t)) ≡ seen (mine l t) ++ content p e.number ∷ [] = rw (mine_event e t, q, b) in
           let open_still : ends (mine l (event p e ∷ t)) ≡ false = rw (mine_event e t, q, b) o in
-          let wants_it : asks (k (seen (mine l t))) e.file ≡ true = rw (asked, b) (eq_eqb e.file e.file refl) in
+          let wants_it : asks (k (seen (mine l t))) e.file ≡ true = rw (asked, b) (eq-eqb e.file e.file refl) in
           and_from _ _ n.0 (and_from _ _ wants_it (rw more at (ih open_still g)))
       by false q b bs ih g =
           let same : mine l (event p e ∷ t) ≡ mine l t = rw (mine_event e t, q) in

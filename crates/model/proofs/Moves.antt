@@ -1,6 +1,6 @@
 -- What a working step that goes on does to the entries: those of other lines stay, and its own line comes nearer to its end.
 use Rattle.std.proofs.Common.{◌≡◌, ℕ, zero, suc, ◌<◌, Bool, true, false, cond, eqb, ◌⊎◌, List, [], ◌∷◌, ◌++◌, length, Some, None, Option, sym, refl, ap, ◌∙◌, subst, inl, inr, ⊎_elim, arith}
-use Rattle.std.proofs.lemmas.Bool.{cases_Bool, both_ways, and_from, eq_eqb, ne_eqb, lt_ltb, not_from_false, or_right}
+use Rattle.std.proofs.lemmas.Bool.{cases_Bool, both_ways, and_from, eq-eqb, ne_eqb, lt-ltb, not_from_false, or_right}
 use Rattle.model.specs.declared.command.Command.{Command}
 use Rattle.model.specs.declared.run.Entry.{Entry}
 use Rattle.model.specs.declared.run.Hazard.{Hazard}
@@ -64,7 +64,7 @@ skip_ends l [] u s r e = by (hazard (entry l true u) s.entries) e
   where
     by : (m : Option Hazard) → tested l (written (entry l true u) s.pool s) m (goes (written (entry l true u) s.pool s)) ≡ goes r → Ends l s.entries r.entries
     by (Some h) k = not_goes k
-    by None k = subst (λ x. Ends l s.entries x.entries) (goes_is k) (others_one l s.entries (entry l true u) refl, ended_more l s.entries (entry l true u ∷ []) ∙ rw (eq_eqb l l refl) (or_right _ true refl))
+    by None k = subst (λ x. Ends l s.entries x.entries) (goes_is k) (others_one l s.entries (entry l true u) refl, ended_more l s.entries (entry l true u ∷ []) ∙ rw (eq-eqb l l refl) (or_right _ true refl))
 skip_ends l (q ∷ rs) u s r e = by (hazard (entry l false q) s.entries) e (skip_ends l rs u (noted (entry l false q) s) r)
   where
     by : (m : Option Hazard) → tested l (noted (entry l false q) s) m (skip l rs u (noted (entry l false q) s)) ≡ goes r → (skip l rs u (noted (entry l false q) s) ≡ goes r → Ends l (s.entries ++ entry l false q ∷ []) r.entries) → Ends l s.entries r.entries
@@ -91,4 +91,4 @@ all_from (suc n) es h = and_from _ _ (h n (omega arith)) (all_from n es (λ l lt
 pub front_below : (n : ℕ) (es : List Entry) (f : ℕ) → Front (left n es) f → (k : ℕ) → k < f → ended k es ≡ true
 front_below n es f h k lt =
     let m = left_parts n es f h.member in
-    ⊎_elim (λ e. e) (λ e. absurd (h.lowest k lt (and_from _ _ (lt_ltb k n (omega (arith, m.0))) (not_from_false _ e)))) (cases_Bool (ended k es))
+    ⊎_elim (λ e. e) (λ e. absurd (h.lowest k lt (and_from _ _ (lt-ltb k n (omega (arith, m.0))) (not_from_false _ e)))) (cases_Bool (ended k es))

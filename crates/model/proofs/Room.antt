@@ -1,6 +1,6 @@
 -- The log of an open run has room for all that its lines have left, since no line makes more than 17 acts.
 use Rattle.std.proofs.Common.{◌≡◌, ℕ, zero, suc, ◌+◌, ◌*◌, ◌<◌, ◌≤◌, Bool, true, false, cond, not, ◌&&◌, ◌||◌, eqb, leb, List, [], ◌∷◌, ◌++◌, length, Some, None, Option, sym, refl, ap, ◌∙◌, subst, ⊎_elim, arith}
-use Rattle.std.proofs.lemmas.Bool.{cases_eq, cases_lt, both_ways, eq_eqb, ne_eqb, and_parts, not_true, or_right}
+use Rattle.std.proofs.lemmas.Bool.{cases_eq, cases_lt, both_ways, eq-eqb, ne_eqb, and_parts, not-true, or_right}
 use Rattle.model.specs.declared.command.Command.{Command}
 use Rattle.model.specs.declared.run.Entry.{Entry}
 use Rattle.model.specs.declared.run.Hazard.{Hazard}
@@ -29,7 +29,7 @@ made_more l (e ∷ es) ds = let h = made_more l es ds in omega arith
 
 made_of : (l : ℕ) (es : List Entry) → Of l es → acts_made l es ≡ length es
 made_of l [] h = refl
-made_of l (e ∷ es) h = rw (eq_eqb l e.line (sym h.0), made_of l es h.1) (omega arith)
+made_of l (e ∷ es) h = rw (eq-eqb l e.line (sym h.0), made_of l es h.1) (omega arith)
 
 made_other : (l m : ℕ) → (m ≡ l → ⊥) → (es : List Entry) → Of l es → acts_made m es ≡ 0
 made_other l m ne [] h = refl
@@ -43,7 +43,7 @@ adds_made_other n l es ds a m ne = rw (a.is, made_more m es a.new, made_other l 
 
 made_fresh : (l : ℕ) (es : List Entry) → fresh l es ≡ true → acts_made l es ≡ 0
 made_fresh l [] h = refl
-made_fresh l (e ∷ es) h = let b = and_parts (not (eqb l e.line)) (fresh l es) h in rw (not_true _ b.0, made_fresh l es b.1) (omega arith)
+made_fresh l (e ∷ es) h = let b = and_parts (not (eqb l e.line)) (fresh l es) h in rw (not-true _ b.0, made_fresh l es b.1) (omega arith)
 
 -- a line that has not ended has only read
 made_read : (p : Pool) (l : ℕ) (es : List Entry) → ended l es ≡ false → acts_made l es ≡ length (has_read p l es)
@@ -73,13 +73,13 @@ total_below : (n : ℕ) (e : Entry) (es : List Entry) → e.line < n → total n
 total_below zero e es h = absurd (omega arith)
 total_below (suc n) e es h = ⊎_elim
     (λ (lt : e.line < n). rw (ne_eqb n e.line (λ i. omega arith), total_below n e es lt) (omega arith))
-    (λ (le : n ≤ e.line). let same : n ≡ e.line = omega arith in rw (eq_eqb n e.line same, total_above n e es le) (omega arith))
+    (λ (le : n ≤ e.line). let same : n ≡ e.line = omega arith in rw (eq-eqb n e.line same, total_above n e es le) (omega arith))
     (cases_lt e.line n)
 
 total_all : (n : ℕ) (es : List Entry) → ((l : ℕ) → n ≤ l → acts_made l es ≡ 0) → total n es ≡ length es
 total_all n [] h = total_none n
 total_all n (e ∷ es) h =
-    let here : e.line < n = ⊎_elim (λ lt. lt) (λ (le : n ≤ e.line). let k : 1 + acts_made e.line es ≡ 0 = rw (eq_eqb e.line e.line refl) at (h e.line le) in absurd (omega arith)) (cases_lt e.line n) in
+    let here : e.line < n = ⊎_elim (λ lt. lt) (λ (le : n ≤ e.line). let k : 1 + acts_made e.line es ≡ 0 = rw (eq-eqb e.line e.line refl) at (h e.line le) in absurd (omega arith)) (cases_lt e.line n) in
     total_below n e es here ∙ ap suc (total_all n es (λ l le. let k = h l le in omega arith))
 
 total_most : (n : ℕ) (es : List Entry) → ((l : ℕ) → acts_made l es ≤ 17) → total n es ≤ 17 * n
@@ -102,7 +102,7 @@ abbrev Fewer : ℕ → List Entry → Type 0
 Fewer l ds = ended l ds ≡ false → acts_made l ds ≤ 16
 
 wrote_ended : (l : ℕ) (es : List Entry) (e : Entry) → e.line ≡ l → e.wrote ≡ true → ended l (es ++ e ∷ []) ≡ true
-wrote_ended l es e h w = ended_more l es (e ∷ []) ∙ rw (eq_eqb l e.line (sym h), w) (or_right _ true refl)
+wrote_ended l es e h w = ended_more l es (e ∷ []) ∙ rw (eq-eqb l e.line (sym h), w) (or_right _ true refl)
 
 module _ (cs : List Command) (l : ℕ) (s : State) (still : ended l s.entries ≡ false) (few : acts_made l s.entries ≤ 16) where
   write_fewer : (f : ℕ) (p : Pool) (n : ℕ) → Fewer l (reached (writing l s f p n)).entries
@@ -140,7 +140,7 @@ skip_fewer l n [] u s le few h = by (hazard (entry l true u) s.entries) h
 skip_fewer l n (r ∷ rs) u s le few h = by (hazard (entry l false r) s.entries) (skip_fewer l n rs u (noted (entry l false r) s) (omega (arith, one)) few) h
   where
     one : acts_made l (s.entries ++ entry l false r ∷ []) ≡ acts_made l s.entries + 1
-    one = made_more l s.entries (entry l false r ∷ []) ∙ rw (eq_eqb l l refl) (omega arith)
+    one = made_more l s.entries (entry l false r ∷ []) ∙ rw (eq-eqb l l refl) (omega arith)
 
     by : (m : Option Hazard) → Fewer l (reached (skip l rs u (noted (entry l false r) s))).entries → Fewer l (reached (tested l (noted (entry l false r) s) m (skip l rs u (noted (entry l false r) s)))).entries
     by (Some x) ih h = omega (arith, one)

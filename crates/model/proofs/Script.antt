@@ -1,7 +1,7 @@
 -- A run that always takes the lowest line is script order, number for number. Assumes nothing.
 use Rattle.std.proofs.Common.{◌≡◌, ℕ, zero, suc, ◌+◌, ◌<◌, ◌≤◌, Bool, true, false, cond, ◌&&◌, ◌||◌, eqb, leb, ◌⊎◌, List, [], ◌∷◌, ◌++◌, length, get_or, Some, None, Option, sym, refl, ap, ◌∙◌, inl, inr, ⊎_elim, arith}
 use Rattle.std.proofs.lemmas.List.{length-append}
-use Rattle.std.proofs.lemmas.Bool.{cases_lt, both_ways, eq_eqb, or_right}
+use Rattle.std.proofs.lemmas.Bool.{cases_lt, both_ways, eq-eqb, or_right}
 use Rattle.model.specs.declared.command.Command.{Command}
 use Rattle.model.specs.declared.run.Entry.{Entry}
 use Rattle.model.specs.declared.run.Hazard.{Hazard}
@@ -95,7 +95,7 @@ module _ (cs : List Command) (l : ℕ) (s r : State) where
   Nearer = (ended l r.entries ≡ true) ⊎ ((length xs < 16) × (length (has_read r.pool l r.entries) ≡ suc (length xs)))
 
   own : eqb l l ≡ true
-  own = eq_eqb l l refl
+  own = eq-eqb l l refl
 
   pub nearer : act (wants cs l) l s ≡ goes r → Nearer
   nearer e = ⊎_elim read write (was e)

@@ -1,9 +1,9 @@
 -- A skip by a true record is the line's own acts, number for number. Assumes nothing.
 use Rattle.std.proofs.Common.{◌≡◌, ℕ, zero, suc, ◌+◌, ◌-◌, ◌<◌, ◌≤◌, Bool, true, false, cond, not, eqb, List, [], ◌∷◌, ◌++◌, length, get_or, Some, None, Option, sym, refl, ap, ◌∙◌, subst, arith}
 use Rattle.std.specs.Str.{bytes_eq}
-use Rattle.std.proofs.lemmas.Slice.Eq.{bytes_eq_Decides}
+use Rattle.std.proofs.lemmas.Slice.Eq.{bytes_eq-Decides}
 use Rattle.std.proofs.lemmas.List.{length-append}
-use Rattle.std.proofs.lemmas.Bool.{and_parts, and_from, le_leb, eqb_true, eq_eqb, ne_eqb, not_true, true≢false}
+use Rattle.std.proofs.lemmas.Bool.{and_parts, and_from, le-leb, eqb-true, eq-eqb, ne_eqb, not-true, true≢false}
 use Rattle.model.specs.declared.command.Command.{Command}
 use Rattle.model.specs.declared.run.Entry.{Entry}
 use Rattle.model.specs.declared.run.Hazard.{Hazard}
@@ -30,7 +30,7 @@ abbrev pub Short : List Content → Type 0
 Short xs = (n : ℕ) → n < length xs → length (get_or xs n []) ≤ 4096
 
 asks_is : (q : Want) (f : ℕ) → asks q f ≡ true → q ≡ reads f
-asks_is (reads g) f h = ap reads (sym (eqb_true f g h))
+asks_is (reads g) f h = ap reads (sym (eqb-true f g h))
 asks_is (writes g x) f h = absurd (true≢false (sym h))
 asks_is bad f h = absurd (true≢false (sym h))
 
@@ -38,8 +38,8 @@ makes_is : (q : Want) (f : ℕ) (y : Content) → makes q f y ≡ true → q ≡
 makes_is (reads g) f y h = absurd (true≢false (sym h))
 makes_is (writes g x) f y h =
     let b = and_parts (eqb f g) (bytes_eq y x) h in
-    let i = eqb_true f g b.0 in
-    let j : y ≡ x = (bytes_eq_Decides y x).0 b.1 in
+    let i = eqb-true f g b.0 in
+    let j : y ≡ x = (bytes_eq-Decides y x).0 b.1 in
     cc
 makes_is bad f y h = absurd (true≢false (sym h))
 
@@ -77,7 +77,7 @@ few p k b (r ∷ rs) xs u n h =
 
 module _ (cs : List Command) (l : ℕ) where
   own_line : eqb l l ≡ true
-  own_line = eq_eqb l l refl
+  own_line = eq-eqb l l refl
 
   -- a write of a content that is in the pool, and the end of its line
   module _ (s : State) (f n : ℕ) (d : Distinct s.pool.contents) (short : Short s.pool.contents) (inside : holds s.pool n ≡ true) where
@@ -101,7 +101,7 @@ module _ (cs : List Command) (l : ℕ) where
 
     writes_again : attempt (wants cs l) l s (has_read s.pool l s.entries) (writes f x) ≡ tested l (written (record { line = l; wrote = true; file = f; number = n }) s.pool s) (hazard (record { line = l; wrote = true; file = f; number = n }) s.entries) (goes (written (record { line = l; wrote = true; file = f; number = n }) s.pool s))
     writes_again =
-        ap (λ c. cond c (writing l s f (put s.pool x) (given s.pool x)) (stops s (stop_at l TooLong))) (le_leb _ _ (short (n - 1) low)) ∙
+        ap (λ c. cond c (writing l s f (put s.pool x) (given s.pool x)) (stops s (stop_at l TooLong))) (le-leb _ _ (short (n - 1) low)) ∙
         ap (λ q. writing l s f q (given s.pool x)) put_same ∙
         ap (writing l s f s.pool) gives ∙
         ap (λ k. tested l (written (record { line = l; wrote = true; file = f; number = k }) s.pool s) (hazard (record { line = l; wrote = true; file = f; number = k }) s.entries) (goes (written (record { line = l; wrote = true; file = f; number = k }) s.pool s))) back
@@ -139,7 +139,7 @@ module _ (cs : List Command) (l : ℕ) where
         let g = entry l false r in
         let held = holds_parts p r.number b.0 in
         let q : wants cs l xs ≡ reads r.file = same _ ∙ asks_is _ r.file a.0 in
-        let number : known p (get_or s.files r.file 0) ≡ r.number = ap (known p) (eqb_true _ _ j.0) ∙ rw (le_leb _ _ held.1) in
+        let number : known p (get_or s.files r.file 0) ≡ r.number = ap (known p) (eqb-true _ _ j.0) ∙ rw (le-leb _ _ held.1) in
         let here : eqb r.number 0 ≡ false = ne_eqb _ _ (λ i. omega (arith, held.0)) in
         let fits : is_bad (wants cs l (xs ++ content p r.number ∷ [])) ≡ false = ap is_bad (same _) ∙ fit p (want c) _ rs u a.1 in
         let act_is : act (wants cs l) l s ≡ tested l (noted g s) (hazard g s.entries) (goes (noted g s)) =
@@ -163,7 +163,7 @@ pub fresh_has : (p : Pool) (l : ℕ) (es : List Entry) → fresh l es ≡ true �
 fresh_has p l [] h = (refl, refl)
 fresh_has p l (e ∷ es) h =
     let b = and_parts (not (eqb l e.line)) (fresh l es) h in
-    let out : eqb l e.line ≡ false = not_true _ b.0 in
+    let out : eqb l e.line ≡ false = not-true _ b.0 in
     let ih = fresh_has p l es b.1 in
     (rw out ih.0, rw out ih.1)
 

@@ -1,7 +1,7 @@
 -- What holds of every world that has a past: of an open run, that its acts so far are steps from what begin found.
 use Rattle.std.proofs.Common.{◌≡◌, ℕ, zero, suc, ◌*◌, ◌<◌, ◌≤◌, Bool, true, false, cond, ltb, ◌⊎◌, List, [], ◌∷◌, length, get_or, set, Some, None, Ok, Err, Option, sym, refl, ap, ◌∙◌, subst, inl, inr, ⊎_elim, arith}
 use Rattle.std.proofs.lemmas.List.{take_all}
-use Rattle.std.proofs.lemmas.Bool.{cases_lt, both_ways, and_parts, or_parts, ltb-false, ltb_true, not_true}
+use Rattle.std.proofs.lemmas.Bool.{cases_lt, both_ways, and_parts, or_parts, ltb-false, ltb-true, not-true}
 use Rattle.model.specs.declared.command.Command.{Command}
 use Rattle.model.specs.declared.refusal.Refusal.{Refusal}
 use Rattle.model.specs.declared.refusal.Refusal.TheVariants.{RunOpen, LogTooSmall, BookTooSmall, UnknownContent}
@@ -194,7 +194,7 @@ sound_begin w v b s cs h e =
 -- STEP
 
 pub left_parts : (n : ℕ) (es : List Entry) (l : ℕ) → left n es l ≡ true → (l < n) × (ended l es ≡ false)
-left_parts n es l h = let b = and_parts (ltb l n) _ h in (ltb_true l n b.0, not_true _ b.1)
+left_parts n es l h = let b = and_parts (ltb l n) _ h in (ltb-true l n b.0, not-true _ b.1)
 
 -- a step is an act of its line, or all that is left of it
 pub work_is : (w : World) (b : Found) → Open b w → (l : ℕ) → (work w l ≡ act (wants b.commands l) l (state w)) ⊎ (work w l ≡ carry (wants b.commands l) 17 l (state w))

@@ -1,5 +1,5 @@
 -- In an open run the state of each line is the one that its entries tell: a step turns its own line, and no other line's state changes.
-use Rattle.std.proofs.Common.{◌≡◌, ℕ, zero, suc, ◌<◌, ◌≤◌, Bool, true, false, ◌&&◌, ◌||◌, eqb, List, [], ◌∷◌, ◌++◌, length, get_or, replicate, sym, refl, ap, ◌∙◌, ⊎_elim, append_nil, arith, length_set, get_or-set_other, get_or_set_same}
+use Rattle.std.proofs.Common.{◌≡◌, ℕ, zero, suc, ◌<◌, ◌≤◌, Bool, true, false, ◌&&◌, ◌||◌, eqb, List, [], ◌∷◌, ◌++◌, length, get_or, replicate, sym, refl, ap, ◌∙◌, ⊎_elim, append-nil, arith, length-set, get_or-set_other, get_or-set_same}
 use Rattle.std.proofs.lemmas.Bool.{cases_eq, ne_eqb}
 use Rattle.model.specs.declared.run.Entry.{Entry}
 use Rattle.model.specs.declared.run.LineState.TheVariants.{Waiting}
@@ -48,7 +48,7 @@ state_same : (k : List Content → Want) (p q : Pool) → Grows p q → (n l : �
 state_same k p q g n l es ds h a m ne =
     let o = adds_other n l es ds a m ne in
     let x = of_other q l m ne a.new a.of in
-    let seen : has_read q m ds ≡ has_read p m es = ap (has_read q m) a.is ∙ has_read_more q m es a.new ∙ ap (λ ys. has_read q m es ++ ys) x.0 ∙ append_nil _ ∙ has_read_grown p q g m es h in
+    let seen : has_read q m ds ≡ has_read p m es = ap (has_read q m) a.is ∙ has_read_more q m es a.new ∙ ap (λ ys. has_read q m es ++ ys) x.0 ∙ append-nil _ ∙ has_read_grown p q g m es h in
     let missed : read_absent m ds ≡ read_absent m es = ap (read_absent m) a.is ∙ absent_more m es a.new ∙ rw x.1 (or_false (read_absent m es)) in
     rw (o.0, o.1, seen, missed)
 
@@ -79,10 +79,10 @@ module _ {w : World} (p : Past w) (v : World) (t : Ticket) (a : Asked) (st : Ste
 
   table_step : Table v
   table_step = rw d.world (record {
-    all = length_set w.notes.states l _ ∙ ih.all;
+    all = length-set w.notes.states l _ ∙ ih.all;
     few = ih.few;
     right = λ m lt. ⊎_elim
-        (λ (i : m ≡ l). rw i (get_or_set_same w.notes.states l _ Waiting (omega (arith, inside, ih.few, ih.all))))
+        (λ (i : m ≡ l). rw i (get_or-set_same w.notes.states l _ Waiting (omega (arith, inside, ih.few, ih.all))))
         (λ (ne : m ≡ l → ⊥). get_or-set_other w.notes.states l m _ Waiting ne ∙ ih.right m lt ∙ sym (state_same (wants w.notes.commands m) w.pool (reached (work w l)).pool grown (most_new (record_for w l)) l w.entries _ (o.going d.going).corresponds.numbered (work_adds w l) m ne))
         (cases_eq m l);
   })

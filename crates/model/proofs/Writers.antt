@@ -1,6 +1,6 @@
 -- No two lines of a run that has not stopped write one file, so no two of its ended lines have the same command. Assumes nothing.
 use Rattle.std.proofs.Common.{◌≡◌, ℕ, zero, suc, Bool, true, false, cond, eqb, List, [], ◌∷◌, length, drop, Some, None, Option, sym, refl, ap, ◌∙◌, arith}
-use Rattle.std.proofs.lemmas.Bool.{both_ways, eqb_true, eq_eqb, or_right}
+use Rattle.std.proofs.lemmas.Bool.{both_ways, eqb-true, eq-eqb, or_right}
 use Rattle.model.specs.declared.command.Kind.{Kind}
 use Rattle.model.specs.declared.command.Kind.TheVariants.{Copy, Join, Gather, Choose, Tally, Check}
 use Rattle.model.specs.declared.command.Command.{Command}
@@ -79,8 +79,8 @@ module _ (w : Start) (to : ℕ → ℕ) (to_is : (l f : ℕ) (xs : List Content)
       by false d b o s k ih = or_right _ _ (ih k)
       by true d (rd m f y) o s k ih = or_right _ _ (ih k)
       by true d (wr m f y) o s k ih =
-          let same : j ≡ m = eqb_true _ _ d ∙ ap line s in
-          rw (same, to_is m f _ y o.wants, eq_eqb (to m) (to m) refl)
+          let same : j ≡ m = eqb-true _ _ d ∙ ap line s in
+          rw (same, to_is m f _ y o.wants, eq-eqb (to m) (to m) refl)
 
   pub one_writer : (t : Trace) → Steps w t → (i j : ℕ) → (i ≡ j → ⊥) → Trace.ended i t ≡ true → Trace.ended j t ≡ true → to i ≡ to j → ⊥
   one_writer [] r i j ne e f same = both_ways false refl e
@@ -94,9 +94,9 @@ module _ (w : Start) (to : ℕ → ℕ) (to_is : (l f : ℕ) (xs : List Content)
 
       by : (p : Bool) → eqb i (line a) ≡ p → (q : Bool) → eqb j (line a) ≡ q → (b : Event) → Ok w t b → a ≡ b →
           ends (cond p (b ∷ mine i t) (mine i t)) ≡ true → ends (cond q (b ∷ mine j t) (mine j t)) ≡ true → (Trace.ended i t ≡ true → Trace.ended j t ≡ true → ⊥) → ⊥
-      by true d true c b o s k m ih = ne (eqb_true _ _ d ∙ sym (eqb_true _ _ c))
+      by true d true c b o s k m ih = ne (eqb-true _ _ d ∙ sym (eqb-true _ _ c))
       by false d false c b o s k m ih = ih k m
       by true d false c (rd n g y) o s k m ih = ih k m
       by false d true c (rd n g y) o s k m ih = ih k m
-      by true d false c (wr n g y) o s k m ih = let own : i ≡ n = eqb_true _ _ d ∙ ap line s in first (wr n g y) n g y refl o j m (ap to (sym own) ∙ same)
-      by false d true c (wr n g y) o s k m ih = let own : j ≡ n = eqb_true _ _ c ∙ ap line s in first (wr n g y) n g y refl o i k (ap to (sym own) ∙ sym same)
+      by true d false c (wr n g y) o s k m ih = let own : i ≡ n = eqb-true _ _ d ∙ ap line s in first (wr n g y) n g y refl o j m (ap to (sym own) ∙ same)
+      by false d true c (wr n g y) o s k m ih = let own : j ≡ n = eqb-true _ _ c ∙ ap line s in first (wr n g y) n g y refl o i k (ap to (sym own) ∙ sym same)

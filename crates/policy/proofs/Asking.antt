@@ -1,6 +1,6 @@
 -- Asks of a policy that each passed the front by, and the one that answers it.
 use Rattle.std.proofs.Common.{◌≡◌, ℕ, ◌+◌, ◌≤◌, Bool, refl, ap, arith}
-use Rattle.std.proofs.lemmas.Bool.{eq_eqb, ne_eqb}
+use Rattle.std.proofs.lemmas.Bool.{eq-eqb, ne_eqb}
 use Rattle.model.specs.Asks.{Asks, none, then, number, fronts, row}
 use Rattle.model.specs.Policies.{Answered}
 use Rattle.model.proofs.Asks.{never_longer}
@@ -25,4 +25,4 @@ module _ (patience front start before after n : ℕ) (left : ℕ → Bool) (answ
       (then p.0 left answer answered, ap (λ m. m + 1) p.1, rw no p.2, rw no (ap (λ m. m + 1) p.3))
 
   pub passing_ends : answer ≡ front → (h : Asks patience front start after) × (number h ≡ n + 1) × (fronts h ≡ 1)
-  passing_ends e = (then p.0 left answer answered, ap (λ m. m + 1) p.1, rw (eq_eqb answer front e) (ap (λ m. m + 1) p.2))
+  passing_ends e = (then p.0 left answer answered, ap (λ m. m + 1) p.1, rw (eq-eqb answer front e) (ap (λ m. m + 1) p.2))

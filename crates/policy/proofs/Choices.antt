@@ -1,6 +1,6 @@
 -- What is settled by patience is an answer of a policy's meaning; a set always has a line that waits on none of it.
 use Rattle.std.proofs.Common.{◌≡◌, ℕ, zero, suc, ◌+◌, ◌≤◌, Bool, true, false, cond, not, eqb, sym, refl, ⊎_elim}
-use Rattle.std.proofs.lemmas.Bool.{cases_Bool, and_parts, and_from, not_true, not_from_false, eqb_false, cond_true}
+use Rattle.std.proofs.lemmas.Bool.{cases_Bool, and_parts, and_from, not-true, not_from_false, eqb-false, cond-true}
 use Rattle.model.specs.Policies.{Answered}
 use Rattle.policy.specs.Lines.{some_below, leads, highest}
 use Rattle.policy.specs.Choices.{may_pass, takes, answer}
@@ -13,7 +13,7 @@ module _ (set : ℕ → Bool) (front patience passes choice : ℕ) (taken : true
   may = (and_parts (may_pass set front patience passes) (set choice) (sym taken)).0
 
   pub passed_line : choice ≡ answer set front patience passes choice
-  passed_line = sym (cond_true (takes set front patience passes choice) choice front (sym taken))
+  passed_line = sym (cond-true (takes set front patience passes choice) choice front (sym taken))
 
   pub passed_by : passes ≤ patience → (choice ≡ front → ⊥) → Answered set front choice (record { patience = patience; before = passes; after = passes + 1 })
   passed_by le ne =
@@ -21,7 +21,7 @@ module _ (set : ℕ → Bool) (front patience passes choice : ℕ) (taken : true
       record {
         bound = le;
         member = λ _. (and_parts (may_pass set front patience passes) (set choice) (sym taken)).1;
-        due = λ e. absurd (eqb_false passes patience (not_true _ p.0) e);
+        due = λ e. absurd (eqb-false passes patience (not-true _ p.0) e);
         astray = λ no. absurd (no (leads_to set front p.1));
         taken = λ e. absurd (ne e);
         passed = λ _. refl;

@@ -1,7 +1,7 @@
 -- Sets of lines: one step of the loops that go over one, and when a line is its lowest.
-use Rattle.std.proofs.Common.{◌≡◌, ℕ, zero, suc, ◌+◌, ◌<◌, ◌≤◌, Bool, true, false, cond, not, ◌&&◌, eqb, ltb, List, length, get_or, set, replicate, sym, refl, ap, ◌∙◌, ⊎_elim, add-one, arith, get_or-set_other, get_or_set_same}
+use Rattle.std.proofs.Common.{◌≡◌, ℕ, zero, suc, ◌+◌, ◌<◌, ◌≤◌, Bool, true, false, cond, not, ◌&&◌, eqb, ltb, List, length, get_or, set, replicate, sym, refl, ap, ◌∙◌, ⊎_elim, add-one, arith, get_or-set_other, get_or-set_same}
 use Rattle.std.proofs.lemmas.List.{get_or_past}
-use Rattle.std.proofs.lemmas.Bool.{cases_eq, both_ways, and_parts, not_true, or_left, or_right, or_cases, or_from, lt_ltb, le_ltb, ne_eqb}
+use Rattle.std.proofs.lemmas.Bool.{cases_eq, both_ways, and_parts, not-true, or_left, or_right, or_cases, or_from, lt-ltb, le-ltb, ne_eqb}
 use Rattle.std.proofs.lemmas.Bool.Decides.{nat_tests}
 use Rattle.model.specs.Policies.{Front}
 use Rattle.policy.specs.Lines.{some_below, leads, highest}
@@ -13,12 +13,12 @@ none_in (suc n) zero = refl
 none_in (suc n) (suc k) = none_in n k
 
 pub none_below : (n k : ℕ) → get_or (replicate n false) k false ≡ ltb k 0
-none_below n k = none_in n k ∙ sym (le_ltb k 0 (omega arith))
+none_below n k = none_in n k ∙ sym (le-ltb k 0 (omega arith))
 
 -- one more line is put in
 pub put_in : (xs : List Bool) (i : ℕ) → i < length xs → ((k : ℕ) → get_or xs k false ≡ ltb k i) → (k : ℕ) → get_or (set xs i true) k false ≡ ltb k (i + 1)
 put_in xs i l h k = ⊎_elim
-    (λ e. rw (e, lt_ltb i (i + 1) (omega arith)) (get_or_set_same xs i true false l))
+    (λ e. rw (e, lt-ltb i (i + 1) (omega arith)) (get_or-set_same xs i true false l))
     (λ ne. get_or-set_other xs i k true false ne ∙ h k ∙ past k i ne)
     (cases_eq k i)
   where
@@ -52,7 +52,7 @@ some_to test (suc n) h = ⊎_elim
 pub leads_to : (set : ℕ → Bool) (f : ℕ) → leads set f ≡ true → Front set f
 leads_to set f h =
     let p = and_parts (set f) (not (some_below set f)) h in
-    record { member = p.0; lowest = λ k l e. both_ways _ (not_true _ p.1) (some_from set f k l e) }
+    record { member = p.0; lowest = λ k l e. both_ways _ (not-true _ p.1) (some_from set f k l e) }
 
 pub and_true : (b : Bool) → (b && true) ≡ b
 and_true true = refl

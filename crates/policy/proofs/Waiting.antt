@@ -1,9 +1,9 @@
 -- Who waits on whom: one step of the loop over reads, and what a table filled by them tells.
-use Rattle.std.proofs.Common.{◌≡◌, ℕ, zero, suc, ◌+◌, ◌*◌, ◌/◌, ◌%◌, ◌<◌, ◌≤◌, Bool, true, false, cond, not, ◌&&◌, ◌||◌, eqb, ltb, leb, ◌≢◌, List, [], ◌∷◌, map, length, get_or, take, drop, set, Some, None, Option, sym, refl, ap, ◌∙◌, ⊎_elim, arith, get_or-set_other, get_or_set_same, below_more}
+use Rattle.std.proofs.Common.{◌≡◌, ℕ, zero, suc, ◌+◌, ◌*◌, ◌/◌, ◌%◌, ◌<◌, ◌≤◌, Bool, true, false, cond, not, ◌&&◌, ◌||◌, eqb, ltb, leb, ◌≢◌, List, [], ◌∷◌, map, length, get_or, take, drop, set, Some, None, Option, sym, refl, ap, ◌∙◌, ⊎_elim, arith, get_or-set_other, get_or-set_same, below_more}
 use Rattle.std.proofs.lemmas.List.Edits.{fill_by_more}
 use Rattle.std.proofs.lemmas.List.{at_drop_more, at_drop_all, length-take}
 use Rattle.std.proofs.lemmas.Option.{slice_get_past}
-use Rattle.std.proofs.lemmas.Bool.{cases_lt, lt_ltb, le_ltb, lt_leb, le_leb, and_right, not_from_true}
+use Rattle.std.proofs.lemmas.Bool.{cases_lt, lt-ltb, le-ltb, lt-leb, le-leb, and_right, not_from_true}
 use Rattle.std.specs.Option.{option_map}
 use Rattle.std.specs.List.{slice_get}
 use Rattle.model.specs.Records.{Record, said}
@@ -25,7 +25,7 @@ read_none f us i inv h = sym (at_drop_all (reads_file f) us i h) ∙ inv
 pub found_more : (f : ℕ → Option Record) (all : List (Option Code.Record)) (i : ℕ) (x : Option Code.Record) → i < length all → ((k : ℕ) → k < i → option_map said (get_or all k None) ≡ f k) → option_map said x ≡ f i → (k : ℕ) → k < i + 1 → option_map said (get_or (set all i x) k None) ≡ f k
 found_more f all i x l below e = below_more _ i
     (λ k h. let ne : k ≢ i = omega arith in ap (option_map said) (get_or-set_other all i k x None ne) ∙ below k h)
-    (ap (option_map said) (get_or_set_same all i x None l) ∙ e)
+    (ap (option_map said) (get_or-set_same all i x None l) ∙ e)
 
 -- one more place is filled
 pub filled : (all : List (Option Code.Record)) (table : List Bool) (i : ℕ) (b : Bool) → i < length table → ((k : ℕ) → k < i → get_or table k false ≡ waits_at all k) → b ≡ waits_at all i → (k : ℕ) → k < i + 1 → get_or (set table i b) k false ≡ waits_at all k
@@ -60,11 +60,11 @@ module _ (cs : List Command) (rs : List Record) (all : List (Option Code.Record)
 
     pub table_tells : (line earlier : ℕ) → (ltb earlier line && (leb 64 line || get_or table (line * 64 + earlier) false)) ≡ waits_on (take 64 cs) rs line earlier
     table_tells line earlier = ⊎_elim
-        (λ lt. rw (lt_ltb earlier line lt) (⊎_elim
-        (λ low. rw (lt_leb 64 line low) (at_place line earlier lt low))
-        (λ high. rw (le_leb 64 line high) (ap (λ o. waits_by o (finds (take 64 cs) rs earlier)) (finds_none line high)))
+        (λ lt. rw (lt-ltb earlier line lt) (⊎_elim
+        (λ low. rw (lt-leb 64 line low) (at_place line earlier lt low))
+        (λ high. rw (le-leb 64 line high) (ap (λ o. waits_by o (finds (take 64 cs) rs earlier)) (finds_none line high)))
         (cases_lt line 64)))
-        (λ le. rw (le_ltb earlier line le) refl)
+        (λ le. rw (le-ltb earlier line le) refl)
         (cases_lt earlier line)
 
 -- a line that is held up by one below it, or by none

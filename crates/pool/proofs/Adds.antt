@@ -1,9 +1,9 @@
 -- One content more: its bytes lie past those of the others, which stay.
 use Rattle.std.proofs.Common.{◌≡◌, ℕ, zero, suc, ◌+◌, ◌-◌, ◌<◌, ◌≤◌, false, ◌≢◌, List, [], ◌∷◌, ◌++◌, map, length, get_or, take, drop, set, sym, refl, ap, ◌∙◌, subst, inl, inr, arith, below_more}
 use borrow.Rule.Slice.PartMut.{put_mid}
-use Rattle.std.proofs.lemmas.List.{drop_take, take_take, take_more_set, map_push, get_or_set_same, get_or-set_other, length-take-le, get_or_take, take-set-le, length_push, get_or_append_left, get_or_push}
+use Rattle.std.proofs.lemmas.List.{drop-take, take-take, take_more_set, map_push, get_or-set_same, get_or-set_other, length-take-le, get_or-take, take-set-le, length_push, get_or_append_left, get_or_push}
 use Rattle.std.proofs.lemmas.Slice.{take-put_mid_below, between-put_mid}
-use Rattle.std.proofs.lemmas.Slice.Eq.{bytes_eq_Decides}
+use Rattle.std.proofs.lemmas.Slice.Eq.{bytes_eq-Decides}
 use Rattle.std.proofs.lemmas.Bool.{or_parts, both_ways, cases_eq}
 use Rattle.std.specs.Str.{bytes_eq}
 use Rattle.model.specs.Contents.{mem}
@@ -19,9 +19,9 @@ map_same f g (x ∷ xs) d h =
 
 pub piece_kept : (bs bs' : List ℕ) (u : ℕ) (p : Place) → p.start + p.len ≤ u → take u bs' ≡ take u bs → piece bs' p ≡ piece bs p
 piece_kept bs bs' u p h e =
-    sym (drop_take p.start p.len bs')
-    ∙ ap (drop p.start) (sym (take_take (p.start + p.len) u bs' h) ∙ ap (take (p.start + p.len)) e ∙ take_take (p.start + p.len) u bs h)
-    ∙ drop_take p.start p.len bs
+    sym (drop-take p.start p.len bs')
+    ∙ ap (drop p.start) (sym (take-take (p.start + p.len) u bs' h) ∙ ap (take (p.start + p.len)) e ∙ take-take (p.start + p.len) u bs h)
+    ∙ drop-take p.start p.len bs
 
 pub pieces_kept : (bs bs' : List ℕ) (u n : ℕ) (ps : List Place) → n ≤ length ps → ((k : ℕ) → k < n → (get_or ps k nowhere).start + (get_or ps k nowhere).len ≤ u) → take u bs' ≡ take u bs → pieces bs' n ps ≡ pieces bs n ps
 pieces_kept bs bs' u n ps ok inside e =
@@ -29,7 +29,7 @@ pieces_kept bs bs' u n ps ok inside e =
     map_same (piece bs') (piece bs) (take n ps) nowhere
     (λ k h.
     let lt : k < n = omega arith in
-    let same = get_or_take n ps k nowhere lt in
+    let same = get_or-take n ps k nowhere lt in
     ap (piece bs') same ∙ piece_kept bs bs' u (get_or ps k nowhere) (inside k lt) e ∙ ap (piece bs) (sym same))
 
 pub pieces_added : (bs bs' c : List ℕ) (u n : ℕ) (ps : List Place) → n < length ps → ((k : ℕ) → k < n → (get_or ps k nowhere).start + (get_or ps k nowhere).len ≤ u) → take u bs' ≡ take u bs → take (length c) (drop u bs') ≡ c → pieces bs' (n + 1) (set ps n (record { start = u; len = length c })) ≡ pieces bs n ps ++ c ∷ []
@@ -57,7 +57,7 @@ packed_added u m n ps ok filled packed =
     (λ k h.
     let ne : k ≢ n = omega arith in
     ap (λ p. p.start) (get_or-set_other ps n k q nowhere ne) ∙ packed k h ∙ ap total (sym (take-set-le k ps n q (omega arith))))
-    (ap (λ p. p.start) (get_or_set_same ps n q nowhere ok) ∙ filled ∙ ap total (sym (take-set-le n ps n q (omega arith))))
+    (ap (λ p. p.start) (get_or-set_same ps n q nowhere ok) ∙ filled ∙ ap total (sym (take-set-le n ps n q (omega arith))))
 
 pub filled_added : (u m n : ℕ) (ps : List Place) → n < length ps → u ≡ total (take n ps) → u + m ≡ total (take (n + 1) (set ps n (record { start = u; len = m })))
 filled_added u m n ps ok filled =
@@ -70,12 +70,12 @@ short_added u m n ps ok short low =
     let P : Place → Type 0 = λ p. p.len ≤ 4096 in
     below_more (λ k. (get_or (set ps n q) k nowhere).len ≤ 4096) n
     (λ k h. let ne : k ≢ n = omega arith in subst P (sym (get_or-set_other ps n k q nowhere ne)) (short k h))
-    (subst P (sym (get_or_set_same ps n q nowhere ok)) low)
+    (subst P (sym (get_or-set_same ps n q nowhere ok)) low)
 
 -- no two are equal: the new content is none of the others
 mem_absent : (xs : List (List ℕ)) (c : List ℕ) → mem c xs ≡ false → (k : ℕ) → k < length xs → get_or xs k [] ≡ c → ⊥
 mem_absent [] c e k h same = omega arith
-mem_absent (x ∷ xs) c e zero h same = both_ways (bytes_eq c x) (or_parts (bytes_eq c x) (mem c xs) e).0 ((bytes_eq_Decides c x).1 (sym same))
+mem_absent (x ∷ xs) c e zero h same = both_ways (bytes_eq c x) (or_parts (bytes_eq c x) (mem c xs) e).0 ((bytes_eq-Decides c x).1 (sym same))
 mem_absent (x ∷ xs) c e (suc k) h same = mem_absent xs c (or_parts (bytes_eq c x) (mem c xs) e).1 k (omega arith) same
 
 pub apart_added : (xs ys : List (List ℕ)) (c : List ℕ) → mem c xs ≡ false → ys ≡ xs ++ c ∷ [] → Apart xs → Apart ys

@@ -1,6 +1,6 @@
 -- A pool that is cut back, or is not since it has no more contents.
 use Rattle.std.proofs.Common.{◌≡◌, ℕ, ◌<◌, ◌≤◌, List, [], length, get_or, take, sym, ap, ◌∙◌, arith}
-use Rattle.std.proofs.lemmas.List.{take_all, length-take, get_or_take}
+use Rattle.std.proofs.lemmas.List.{take_all, length-take, get_or-take}
 use Rattle.model.specs.Contents.{Content, Pool, cut}
 use Rattle.pool.specs.Sound.{Apart}
 
@@ -20,5 +20,5 @@ pub apart_front : (xs ys : List Content) (k : ℕ) → take k xs ≡ ys → Apar
 apart_front xs ys k e apart i j h l same =
     let n = length-take k xs in
     let m = ap length e in
-    let low : (n : ℕ) → n < k → get_or ys n [] ≡ get_or xs n [] = λ n lt. ap (λ zs. get_or zs n []) (sym e) ∙ get_or_take k xs n [] lt in
+    let low : (n : ℕ) → n < k → get_or ys n [] ≡ get_or xs n [] = λ n lt. ap (λ zs. get_or zs n []) (sym e) ∙ get_or-take k xs n [] lt in
     apart i j h (omega arith) (sym (low i (omega arith)) ∙ same ∙ low j (omega arith))

@@ -1,8 +1,8 @@
 -- Numbers: which are held, what content each has, and which one a search finds.
 use Rattle.std.proofs.Common.{◌≡◌, ℕ, zero, suc, ◌+◌, ◌-◌, ◌<◌, ◌≤◌, true, false, leb, List, [], ◌∷◌, length, get_or, sym, refl, ap, ◌∙◌, inl, inr, arith}
-use Rattle.std.proofs.lemmas.Slice.Eq.{bytes_eq_Decides}
+use Rattle.std.proofs.lemmas.Slice.Eq.{bytes_eq-Decides}
 use Rattle.std.proofs.lemmas.List.{get_or_past}
-use Rattle.std.proofs.lemmas.Bool.{cond_true, cond_false, cases_Bool, and_parts, leb_true}
+use Rattle.std.proofs.lemmas.Bool.{cond-true, cond-false, cases_Bool, and_parts, leb-true}
 use Rattle.std.specs.Str.{bytes_eq}
 use Rattle.model.specs.Contents.{holds, find, up}
 use Rattle.pool.specs.Stores.{Kept, held, stands}
@@ -13,8 +13,8 @@ use Rattle.pool.proofs.Places.{count_held}
 pub held_place : (s : Store) → Kept s → (n : ℕ) → holds (stands s) n ≡ true → (1 ≤ n) × (n - 1 < s.count)
 held_place s kept n e =
     let parts = and_parts (leb 1 n) (leb n (length (held s))) e in
-    let low = leb_true 1 n parts.0 in
-    let high = leb_true n (length (held s)) parts.1 in
+    let low = leb-true 1 n parts.0 in
+    let high = leb-true n (length (held s)) parts.1 in
     let count = count_held s kept in (low, omega arith)
 
 -- a number past the last has no bytes
@@ -25,21 +25,21 @@ past_last s kept k h = sym (get_or_past (held s) k [] (omega (arith, count_held 
 pub other_length : (b x h : List ℕ) → b ≡ h → (length b ≡ length x → ⊥) → false ≡ bytes_eq x h
 other_length b x h e ne =
     elim (cases_Bool (bytes_eq x h)) [
-      | inl t ↦ absurd (ne (ap length (e ∙ sym ((bytes_eq_Decides x h).0 t))))
+      | inl t ↦ absurd (ne (ap length (e ∙ sym ((bytes_eq-Decides x h).0 t))))
       | inr f ↦ sym f
     ]
 
 -- the first index at which the bytes are the same
 pub find_at : (x : List ℕ) (xs : List (List ℕ)) (i : ℕ) → i < length xs → bytes_eq x (get_or xs i []) ≡ true → ((k : ℕ) → k < i → bytes_eq x (get_or xs k []) ≡ false) → i + 1 ≡ find x xs
 find_at x [] i h e none = absurd (omega arith)
-find_at x (y ∷ xs) zero h e none = sym (cond_true (bytes_eq x y) 1 (up (find x xs)) e)
+find_at x (y ∷ xs) zero h e none = sym (cond-true (bytes_eq x y) 1 (up (find x xs)) e)
 find_at x (y ∷ xs) (suc i) h e none =
     let rest = find_at x xs i (omega arith) e (λ k l. none (suc k) (omega arith)) in
     let more : suc i + 1 ≡ suc (suc i) = omega arith in
     let same : suc i ≡ i + 1 = omega arith in
-    more ∙ ap up (same ∙ rest) ∙ sym (cond_false (bytes_eq x y) 1 (up (find x xs)) (none 0 (omega arith)))
+    more ∙ ap up (same ∙ rest) ∙ sym (cond-false (bytes_eq x y) 1 (up (find x xs)) (none 0 (omega arith)))
 
 pub find_none : (x : List ℕ) (xs : List (List ℕ)) → ((k : ℕ) → k < length xs → bytes_eq x (get_or xs k []) ≡ false) → 0 ≡ find x xs
 find_none x [] none = refl
 find_none x (y ∷ xs) none =
-    ap up (find_none x xs (λ k l. none (suc k) (omega arith))) ∙ sym (cond_false (bytes_eq x y) 1 (up (find x xs)) (none 0 (omega arith)))
+    ap up (find_none x xs (λ k l. none (suc k) (omega arith))) ∙ sym (cond-false (bytes_eq x y) 1 (up (find x xs)) (none 0 (omega arith)))

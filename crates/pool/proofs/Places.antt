@@ -1,6 +1,6 @@
 -- Places that lie one after the other: where each starts and ends, and how many bytes the contents have.
 use Rattle.std.proofs.Common.{◌≡◌, ℕ, zero, suc, ◌+◌, ◌-◌, ◌<◌, ◌≤◌, List, [], ◌∷◌, ◌++◌, map, length, get_or, take, drop, sym, refl, ap, ◌∙◌, arith}
-use Rattle.std.proofs.lemmas.List.{length-take, length_drop, length-take-le, length_map, get_or_take, get_or_map, take_more, take-map, take_take}
+use Rattle.std.proofs.lemmas.List.{length-take, length-drop, length-take-le, length-map, get_or-take, get_or-map, take_more, take-map, take-take}
 use Rattle.model.specs.Contents.{used}
 use Rattle.pool.specs.Pieces.{piece, pieces, nowhere, total}
 use Rattle.pool.specs.Stores.{Kept, held}
@@ -21,18 +21,18 @@ total_up [] (suc m) (suc n) h = omega arith
 total_up (p ∷ ps) (suc m) (suc n) h = omega (arith, total_up ps m n (omega arith))
 
 pub length_pieces : (bs : List ℕ) (n : ℕ) (ps : List Place) → n ≤ length ps → length (pieces bs n ps) ≡ n
-length_pieces bs n ps ok = length_map (take n ps) (piece bs) ∙ length-take-le n ps ok
+length_pieces bs n ps ok = length-map (take n ps) (piece bs) ∙ length-take-le n ps ok
 
 pub getD_pieces : (bs : List ℕ) (n : ℕ) (ps : List Place) (i : ℕ) → n ≤ length ps → i < n → get_or (pieces bs n ps) i [] ≡ piece bs (get_or ps i nowhere)
 getD_pieces bs n ps i ok h =
     let l = length-take-le n ps ok in
-    get_or_map (piece bs) (take n ps) i nowhere [] (omega arith) ∙ ap (piece bs) (get_or_take n ps i nowhere h)
+    get_or-map (piece bs) (take n ps) i nowhere [] (omega arith) ∙ ap (piece bs) (get_or-take n ps i nowhere h)
 
 pub take_pieces : (bs : List ℕ) (m n : ℕ) (ps : List Place) → m ≤ n → take m (pieces bs n ps) ≡ pieces bs m ps
-take_pieces bs m n ps h = take-map (piece bs) m (take n ps) ∙ ap (map (piece bs)) (take_take m n ps h)
+take_pieces bs m n ps h = take-map (piece bs) m (take n ps) ∙ ap (map (piece bs)) (take-take m n ps h)
 
 pub length_piece : (bs : List ℕ) (p : Place) → p.start + p.len ≤ length bs → length (piece bs p) ≡ p.len
-length_piece bs p h = omega (arith, length-take p.len (drop p.start bs), length_drop p.start bs)
+length_piece bs p h = omega (arith, length-take p.len (drop p.start bs), length-drop p.start bs)
 
 used_map : (bs : List ℕ) (ps : List Place) → ((k : ℕ) → k < length ps → (get_or ps k nowhere).start + (get_or ps k nowhere).len ≤ length bs) → used (map (piece bs) ps) ≡ total ps
 used_map bs [] h = refl
@@ -66,7 +66,7 @@ used_pieces s kept n h =
     (λ k lt.
     let below : k < n = omega arith in
     let at = inside s kept k (omega arith) in
-    let same = get_or_take n ps k nowhere below in
+    let same = get_or-take n ps k nowhere below in
     omega (arith, ap (λ p. p.start) same, ap (λ p. p.len) same))
 
 -- the count of the contents, and their bytes

@@ -1,6 +1,6 @@
 -- What putting a content answers and leaves, by the ways that it goes.
 use Rattle.std.proofs.Common.{◌≡◌, ℕ, zero, suc, ◌+◌, ◌-◌, ◌≤◌, true, false, cond, ◌&&◌, ◌||◌, leb, List, [], ◌∷◌, ◌++◌, length, sym, refl, ap, ◌∙◌, inl, inr, arith}
-use Rattle.std.proofs.lemmas.Bool.{cond_true, cond_false, cases_Bool, and_parts, leb_true}
+use Rattle.std.proofs.lemmas.Bool.{cond-true, cond-false, cases_Bool, and_parts, leb-true}
 use Rattle.std.specs.Str.{bytes_eq}
 use Rattle.model.specs.Contents.{Content, Pool, used, mem, find, up, fits, given, put}
 use Rattle.pool.specs.Stores.{Kept, held, stands, places, room}
@@ -16,8 +16,8 @@ pub mem_none : (x : Content) (xs : List Content) → find x xs ≡ 0 → mem x x
 mem_none x [] e = refl
 mem_none x (y ∷ xs) e =
     elim (cases_Bool (bytes_eq x y)) [
-      | inl t ↦ (let z : ◌≡◌ {A = ℕ} 1 0 = sym (cond_true (bytes_eq x y) 1 (up (find x xs)) t) ∙ e in absurd (omega arith))
-      | inr f ↦ ap (λ b. b || mem x xs) f ∙ mem_none x xs (not_up (find x xs) (sym (cond_false (bytes_eq x y) 1 (up (find x xs)) f) ∙ e))
+      | inl t ↦ (let z : ◌≡◌ {A = ℕ} 1 0 = sym (cond-true (bytes_eq x y) 1 (up (find x xs)) t) ∙ e in absurd (omega arith))
+      | inr f ↦ ap (λ b. b || mem x xs) f ∙ mem_none x xs (not_up (find x xs) (sym (cond-false (bytes_eq x y) 1 (up (find x xs)) f) ∙ e))
     ]
 
 pub mem_some : (x : Content) (xs : List Content) → (find x xs ≡ 0 → ⊥) → mem x xs ≡ true
@@ -25,34 +25,34 @@ mem_some x [] ne = absurd (ne refl)
 mem_some x (y ∷ xs) ne =
     elim (cases_Bool (bytes_eq x y)) [
       | inl t ↦ ap (λ b. b || mem x xs) t
-      | inr f ↦ ap (λ b. b || mem x xs) f ∙ mem_some x xs (λ z. ne (cond_false (bytes_eq x y) 1 (up (find x xs)) f ∙ ap up z))
+      | inr f ↦ ap (λ b. b || mem x xs) f ∙ mem_some x xs (λ z. ne (cond-false (bytes_eq x y) 1 (up (find x xs)) f ∙ ap up z))
     ]
 
 -- a content that is held
 pub given_known : (p : Pool) (x : Content) (n : ℕ) → n ≡ find x p.contents → (n ≡ 0 → ⊥) → n ≡ given p x
 given_known p x n e ne =
-    e ∙ sym (cond_true (mem x p.contents) (find x p.contents) (cond (fits p x) (length p.contents + 1) 0) (mem_some x p.contents (λ z. ne (e ∙ z))))
+    e ∙ sym (cond-true (mem x p.contents) (find x p.contents) (cond (fits p x) (length p.contents + 1) 0) (mem_some x p.contents (λ z. ne (e ∙ z))))
 
 pub put_known : (p : Pool) (x : Content) (n : ℕ) → n ≡ find x p.contents → (n ≡ 0 → ⊥) → p ≡ put p x
 unfolding with_contents
 put_known p x n e ne =
-    ap (with_contents p) (sym (cond_true (mem x p.contents) p.contents (cond (fits p x) (p.contents ++ x ∷ []) p.contents) (mem_some x p.contents (λ z. ne (e ∙ z)))))
+    ap (with_contents p) (sym (cond-true (mem x p.contents) p.contents (cond (fits p x) (p.contents ++ x ∷ []) p.contents) (mem_some x p.contents (λ z. ne (e ∙ z)))))
 
 -- another content, for which there is no room
 pub given_none : (p : Pool) (x : Content) → mem x p.contents ≡ false → fits p x ≡ false → given p x ≡ 0
 given_none p x m f =
-    cond_false (mem x p.contents) (find x p.contents) (cond (fits p x) (length p.contents + 1) 0) m ∙ cond_false (fits p x) (length p.contents + 1) 0 f
+    cond-false (mem x p.contents) (find x p.contents) (cond (fits p x) (length p.contents + 1) 0) m ∙ cond-false (fits p x) (length p.contents + 1) 0 f
 
 pub put_none : (p : Pool) (x : Content) → mem x p.contents ≡ false → fits p x ≡ false → p ≡ put p x
 unfolding with_contents
 put_none p x m f =
     ap (with_contents p)
-    (sym (cond_false (mem x p.contents) p.contents (cond (fits p x) (p.contents ++ x ∷ []) p.contents) m ∙ cond_false (fits p x) (p.contents ++ x ∷ []) p.contents f))
+    (sym (cond-false (mem x p.contents) p.contents (cond (fits p x) (p.contents ++ x ∷ []) p.contents) m ∙ cond-false (fits p x) (p.contents ++ x ∷ []) p.contents f))
 
 -- another content, for which there is room
 pub given_fresh : (p : Pool) (x : Content) → mem x p.contents ≡ false → fits p x ≡ true → length p.contents + 1 ≡ given p x
 given_fresh p x m f =
-    sym (cond_false (mem x p.contents) (find x p.contents) (cond (fits p x) (length p.contents + 1) 0) m ∙ cond_true (fits p x) (length p.contents + 1) 0 f)
+    sym (cond-false (mem x p.contents) (find x p.contents) (cond (fits p x) (length p.contents + 1) 0) m ∙ cond-true (fits p x) (length p.contents + 1) 0 f)
 
 same_pool : (p q : Pool) → p.contents ≡ q.contents → p.places ≡ q.places → p.room ≡ q.room → p ≡ q
 same_pool p q a b c =
@@ -65,7 +65,7 @@ unfolding with_contents
 put_fresh p q x m f cs places room =
     same_pool q (with_contents p (p.contents ++ x ∷ [])) cs places room
     ∙ ap (with_contents p)
-    (sym (cond_false (mem x p.contents) p.contents (cond (fits p x) (p.contents ++ x ∷ []) p.contents) m ∙ cond_true (fits p x) (p.contents ++ x ∷ []) p.contents f))
+    (sym (cond-false (mem x p.contents) p.contents (cond (fits p x) (p.contents ++ x ∷ []) p.contents) m ∙ cond-true (fits p x) (p.contents ++ x ∷ []) p.contents f))
 
 -- what it says of a store that a content fits
 pub record Fitting (s : Store) (x : Content) : Type 0 where
@@ -79,7 +79,7 @@ fitting s kept x e =
     let inner = and_parts (leb (length x) 4096) (leb (length (held s) + 1) (places s)) outer.0 in
     let count = count_held s kept in
     let filled = used_held s kept in
-    let a = leb_true (length x) 4096 inner.0 in
-    let b = leb_true (length (held s) + 1) (places s) inner.1 in
-    let c = leb_true (used (held s) + length x) (room s) outer.1 in
+    let a = leb-true (length x) 4096 inner.0 in
+    let b = leb-true (length (held s) + 1) (places s) inner.1 in
+    let c = leb-true (used (held s) + length x) (room s) outer.1 in
     record { short = a; place = omega arith; bytes = omega arith }

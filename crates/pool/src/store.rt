@@ -1,5 +1,5 @@
 ghost use Rattle.std.specs.Prelude.{◌≡◌, ◌<◌, ◌≤◌, true, false, [], length, take, drop, slice_index_or};
-ghost use Rattle.model.specs.Contents.{count as count_of, used as used-by, mem, fits, given, put, cut};
+ghost use Rattle.model.specs.Contents.{count as count_of, used as used_by, mem, fits, given, put, cut};
 ghost use Rattle.pool.specs.Sound.{Apart};
 ghost use Rattle.pool.specs.Stores.{Kept, held, stands};
 
@@ -20,7 +20,7 @@ impl<'a> Store<'a> {
         requires kept { Kept self.now }
         requires within { at < self.now.count }
         ensures value { result.bytes.now ≡ slice_index_or (held self.now) at [] }
-        ensures start { result.start ≡ used-by (take at (held self.now)) }
+        ensures start { result.start ≡ used_by (take at (held self.now)) }
         ensures part { result.bytes.now ≡ take (length result.bytes.now) (drop result.start self.now.bytes.now) }
         ensures short { length result.bytes.now ≤ 4096 }
     {

@@ -1,6 +1,6 @@
 -- After starting contents are laid on absent files, a begin is accepted where log and book have the places.
 use Rattle.std.proofs.Common.{◌≡◌, ℕ, zero, suc, ◌*◌, ◌≤◌, false, cond, eqb, ltb, List, [], ◌∷◌, length, set, Some, None, Option, refl, arith}
-use Rattle.std.proofs.lemmas.Bool.{le_ltb, ltb-false, ne_eqb, or_parts, or_from}
+use Rattle.std.proofs.lemmas.Bool.{le-ltb, ltb-false, ne_eqb, or_parts, or_from}
 use Rattle.model.specs.Begin.{least_places, some_above, begin_refusal}
 use Rattle.model.specs.Contents.{Pool, count, given, put}
 use Rattle.model.specs.Lay.{Start, Stock, laid}
@@ -12,11 +12,11 @@ above_more : (m n : ℕ) (fs : List ℕ) → m ≤ n → some_above m fs ≡ fal
 above_more m n [] le h = refl
 above_more m n (f ∷ fs) le h =
     let b = or_parts (ltb m f) (some_above m fs) h in
-    or_from _ _ (le_ltb n f (omega (arith, ltb-false m f b.0))) (above_more m n fs le b.1)
+    or_from _ _ (le-ltb n f (omega (arith, ltb-false m f b.0))) (above_more m n fs le b.1)
 
 above_set : (n : ℕ) (fs : List ℕ) (i k : ℕ) → k ≤ n → some_above n fs ≡ false → some_above n (set fs i k) ≡ false
 above_set n [] i k low h = refl
-above_set n (f ∷ fs) zero k low h = or_from _ _ (le_ltb n k low) (or_parts (ltb n f) (some_above n fs) h).1
+above_set n (f ∷ fs) zero k low h = or_from _ _ (le-ltb n k low) (or_parts (ltb n f) (some_above n fs) h).1
 above_set n (f ∷ fs) (suc i) k low h =
     let b = or_parts (ltb n f) (some_above n fs) h in
     or_from _ _ b.0 (above_set n fs i k low b.1)
@@ -40,4 +40,4 @@ laid_filed (a ∷ hs) fs p g h e = by (given p a.content) refl e (laid_filed hs 
         ih (above_set after fs a.file (given p a.content) (omega (arith, (given_is p a.content n i).high)) more) (rw (ne_eqb (suc n) 0 (λ z. omega arith)) at k)
 
 pub begin_accepted : (cs : List Command) (u : World) → u.is_open ≡ false → 17 * length cs ≤ u.log_places → least_places ≤ u.book_places → some_above (count u.pool) u.files ≡ false → begin_refusal cs u ≡ None
-begin_accepted cs u closed log book filed = rw (closed, le_ltb u.log_places (17 * length cs) log, le_ltb u.book_places least_places book, filed)
+begin_accepted cs u closed log book filed = rw (closed, le-ltb u.log_places (17 * length cs) log, le-ltb u.book_places least_places book, filed)

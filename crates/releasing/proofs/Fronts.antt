@@ -1,6 +1,6 @@
 -- Where every line waits on all earlier ones, the last_run policy answers the front.
 use Rattle.std.proofs.Common.{◌≡◌, ℕ, ◌<◌, Bool, true, not, eqb, ltb, refl, ◌∙◌, ⊎_elim}
-use Rattle.std.proofs.lemmas.Bool.{cases_order, and_parts, and_from, both_ways, cond_both, lt_ltb, not_true}
+use Rattle.std.proofs.lemmas.Bool.{cases_order, and_parts, and_from, both_ways, cond_both, lt-ltb, not-true}
 use Rattle.policy.specs.Choices.{may_pass, takes, last_run}
 use Rattle.policy.specs.Lines.{leads, highest, some_below}
 use Rattle.policy.specs.Waiting.{held_up, free}
@@ -15,7 +15,7 @@ module _ (waiting : ℕ → ℕ → Bool) (all : (line earlier : ℕ) → waitin
       let p = and_parts (set line) (not (some_below (held_up waiting set line) line)) is_free in
       ⊎_elim (λ (e : line ≡ front). e) (⊎_elim
       (λ (low : line < front). absurd (f.lowest line low p.0))
-      (λ (high : front < line). absurd (both_ways _ (not_true _ p.1) (some_from (held_up waiting set line) line front high (and_from _ _ f.member (all line front ∙ lt_ltb front line high))))))
+      (λ (high : front < line). absurd (both_ways _ (not-true _ p.1) (some_from (held_up waiting set line) line front high (and_from _ _ f.member (all line front ∙ lt-ltb front line high))))))
       (cases_order line front)
 
   pub last_run_front : (patience passes answer : ℕ) → answer ≡ last_run waiting set front patience passes → answer ≡ front

@@ -1,5 +1,5 @@
 -- What is reported of a script that is laid and built from nothing is what its text prints.
-use Rattle.std.proofs.Common.{◌≡◌, ℕ, ◌≤◌, false, List, length, replicate, Some, None, Ok, Err, Option, Result, sym, refl, ap, ◌∙◌, subst, append_nil, arith}
+use Rattle.std.proofs.Common.{◌≡◌, ℕ, ◌≤◌, false, List, length, replicate, Some, None, Ok, Err, Option, Result, sym, refl, ap, ◌∙◌, subst, append-nil, arith}
 use Rattle.model.specs.Begin.{some_above}
 use Rattle.model.specs.Calls.{on_lay, Did}
 use Rattle.model.specs.Contents.{Pool, count}
@@ -28,7 +28,7 @@ pub record AtStart (w : World) : Type 0 where
 
 -- absent files have no lines
 absent_report : (r : Refusal) (labels : List (List ℕ)) (p : Pool) (fs : List ℕ) → fs ≡ replicate 64 0 → report_bytes (Err (By r)) labels p fs ≡ refusal_line r
-absent_report r labels p fs absent = ap (report_bytes (Err (By r)) labels p) absent ∙ append_nil (text_line (refused-words r))
+absent_report r labels p fs absent = ap (report_bytes (Err (By r)) labels p) absent ∙ append-nil (text_line (refused-words r))
 
 module _ (text : List ℕ) where
   -- a refused text, over absent files

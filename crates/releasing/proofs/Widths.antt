@@ -1,5 +1,5 @@
 -- Where script order goes on to the end, there are as many files as before.
-use Rattle.std.proofs.Common.{◌≡◌, ℕ, zero, suc, List, length, sym, refl, ap, ◌∙◌, ⊎_elim, length_set}
+use Rattle.std.proofs.Common.{◌≡◌, ℕ, zero, suc, List, length, sym, refl, ap, ◌∙◌, ⊎_elim, length-set}
 use Rattle.model.specs.Acts.{State, Outcome, goes, stops, then, act}
 use Rattle.model.specs.Commands.{wants}
 use Rattle.model.specs.Contents.{Pool}
@@ -15,7 +15,7 @@ width s = length s.files
 act_width : (cs : List Command) (l : ℕ) (s r : State) → act (wants cs l) l s ≡ goes r → width r ≡ width s
 act_width cs l s r e = ⊎_elim
     (λ (a : ReadAct cs l s r). ap width a.is)
-    (λ (a : WriteAct cs l s r). ap width a.is ∙ length_set s.files a.file (suc a.number))
+    (λ (a : WriteAct cs l s r). ap width a.is ∙ length-set s.files a.file (suc a.number))
     (was cs l s r e)
 
 upto_width : (cs : List Command) (n : ℕ) (s r : State) → upto cs n s ≡ goes r → width r ≡ width s

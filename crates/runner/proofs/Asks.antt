@@ -1,6 +1,6 @@
 -- What a step of the run comes to: the policy is asked of the lines that are left, or no line is left and the step is refused.
 use Rattle.std.proofs.Common.{◌≡◌, ℕ, Bool, true, false, List, Some, None, Ok, Err, sym, refl, ◌∙◌, inl, inr}
-use Rattle.std.proofs.lemmas.Bool.{lt_ltb, cases_Bool}
+use Rattle.std.proofs.lemmas.Bool.{lt-ltb, cases_Bool}
 use Rattle.model.specs.Acts.{stop_of}
 use Rattle.model.specs.Begin.{Ticket}
 use Rattle.model.specs.Hazards.{ended}
@@ -38,7 +38,7 @@ module _ (s t : ℕ → Bool) (same : (k : ℕ) → s k ≡ t k) (f : ℕ) where
       }
 
 pub none_left : (n : ℕ) (es : List Entry) → ((k : ℕ) → left n es k ≡ true → ⊥) → all_ended n es ≡ true
-none_left n es none = all_from n es (λ l lt. elim (cases_Bool (ended l es)) [ inl e ↦ e | inr e ↦ absurd (none l (rw (lt_ltb l n lt, e))) ])
+none_left n es none = all_from n es (λ l lt. elim (cases_Bool (ended l es)) [ inl e ↦ e | inr e ↦ absurd (none l (rw (lt-ltb l n lt, e))) ])
 
 -- A STEP, by the ticket and the run
 module _ (t : Ticket) (w : World) where

@@ -1,5 +1,5 @@
 -- A run on its way from its begin to its end: the steps so far and their counts, and that there are few of them.
-use Rattle.std.proofs.Common.{◌≡◌, ℕ, zero, suc, ◌+◌, ◌-◌, ◌*◌, ◌<◌, ◌≤◌, Bool, true, false, cond, not, ◌&&◌, List, [], ◌∷◌, ◌++◌, length, get_or, is_some, None, Ok, Option, sym, refl, ap, ◌∙◌, inl, inr, append_nil, arith}
+use Rattle.std.proofs.Common.{◌≡◌, ℕ, zero, suc, ◌+◌, ◌-◌, ◌*◌, ◌<◌, ◌≤◌, Bool, true, false, cond, not, ◌&&◌, List, [], ◌∷◌, ◌++◌, length, get_or, is_some, None, Ok, Option, sym, refl, ap, ◌∙◌, inl, inr, append-nil, arith}
 use Rattle.std.proofs.lemmas.List.{length-append, get_or_default}
 use Rattle.std.proofs.lemmas.Bool.{both_ways}
 use Rattle.lists.specs.Held.{held}
@@ -104,7 +104,7 @@ module _ (a : Asked) (t : Stepped) (v w : World) (did : Did (on_step None a (Ok 
 
       by : (new : List Entry) → s.entries ≡ v.entries ++ new → length v.entries < length s.entries
       by [] i =
-          let none : s.entries ≡ v.entries = i ∙ append_nil v.entries in
+          let none : s.entries ≡ v.entries = i ∙ append-nil v.entries in
           absurd (elim moved.own [
             | inl h ↦ both_ways _ on_line.1 (rw none at h)
             | inr h ↦ omega (arith, h.1, ap (λ es. length (reads_of l es)) none)

@@ -1,6 +1,6 @@
 -- An act or a skip of a line adds entries of that line alone, and never more than 17 in all.
 use Rattle.std.proofs.Common.{◌≡◌, ℕ, zero, suc, ◌+◌, ◌<◌, ◌≤◌, Bool, true, false, cond, ◌&&◌, ◌||◌, eqb, ltb, leb, List, [], ◌∷◌, ◌++◌, length, Some, None, Option, sym, refl, ap, ◌∙◌, arith}
-use Rattle.std.proofs.lemmas.Bool.{eq_eqb, ne_eqb, lt_ltb, and_from, cond_true}
+use Rattle.std.proofs.lemmas.Bool.{eq-eqb, ne_eqb, lt-ltb, and_from, cond-true}
 use Rattle.model.specs.declared.command.Command.{Command}
 use Rattle.model.specs.declared.run.Entry.{Entry}
 use Rattle.model.specs.declared.run.Hazard as Met
@@ -37,7 +37,7 @@ only_push l es fs e s o =
       made_as = λ m d. made_push m fs e ∙ ap (λ b. cond b (suc (made m fs)) (made m fs)) (other m d) ∙ o.made_as m d;
       ended_as = λ m d. ended_push m fs e ∙ ap (λ b. (b && e.wrote) || ended m fs) (other m d) ∙ o.ended_as m d;
       fresh_as = λ m d. fresh_push m fs e ∙ rw (other m d) (o.fresh_as m d);
-      inside = λ n h b. below_push n fs e ∙ and_from (ltb e.line n) (all_below n fs) (lt_ltb e.line n (rw s h)) (o.inside n h b);
+      inside = λ n h b. below_push n fs e ∙ and_from (ltb e.line n) (all_below n fs) (lt-ltb e.line n (rw s h)) (o.inside n h b);
     }
   where
     other : (m : ℕ) → (m ≡ l → ⊥) → eqb m e.line ≡ false
@@ -46,10 +46,10 @@ only_push l es fs e s o =
 -- ONE MORE ENTRY of line l
 module _ (l : ℕ) (es : List Entry) (e : Entry) (s : e.line ≡ l) where
   same : eqb l e.line ≡ true
-  same = eq_eqb l e.line (sym s)
+  same = eq-eqb l e.line (sym s)
 
   made_more : made l (es ++ e ∷ []) ≡ suc (made l es)
-  made_more = made_push l es e ∙ cond_true (eqb l e.line) (suc (made l es)) (made l es) same
+  made_more = made_push l es e ∙ cond-true (eqb l e.line) (suc (made l es)) (made l es) same
 
   ended_more : ended l (es ++ e ∷ []) ≡ (e.wrote || ended l es)
   ended_more = ended_push l es e ∙ ap (λ b. (b && e.wrote) || ended l es) same

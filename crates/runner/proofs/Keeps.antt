@@ -1,7 +1,7 @@
 -- Where a book puts the record of a line that was kept.
 use Rattle.std.proofs.Common.{◌≡◌, ℕ, suc, ◌<◌, ◌≤◌, Bool, true, false, cond, ◌||◌, ltb, List, [], ◌∷◌, ◌++◌, map, length, set, is_some, Some, None, Option, sym, refl, ap, ◌∙◌, inl, inr, arith}
-use Rattle.std.proofs.lemmas.List.{length_map, map_set, map-append, set_past}
-use Rattle.std.proofs.lemmas.Bool.{cases_lt, cond_true, cond_false, lt_ltb, le_ltb}
+use Rattle.std.proofs.lemmas.List.{length-map, map-set, map-append, set_past}
+use Rattle.std.proofs.lemmas.Bool.{cases_lt, cond-true, cond-false, lt-ltb, le-ltb}
 use Rattle.std.specs.Option.{option_map}
 use Rattle.model.specs.Book.{same_command, in_script, has_record, replace, evict, keep}
 use Rattle.model.specs.Records.{Record, said}
@@ -50,31 +50,31 @@ has_place c (r ∷ rs) = has_step (same_command c r.command) (has_record c rs) (
 module _ (cs : List Command) (n : ℕ) (q : Record) (rs : List Record) where
   keep_found : (at : ℕ) → Some at ≡ place_of q.command rs → keep cs n q rs ≡ set rs at q
   keep_found at e =
-      cond_true (has_record q.command rs) _ _ (has_place q.command rs ∙ ap is_some (sym e))
+      cond-true (has_record q.command rs) _ _ (has_place q.command rs ∙ ap is_some (sym e))
       ∙ replace_at q rs ∙ ap (λ o. put_at o rs q) (sym e)
 
   keep_new : None ≡ place_of q.command rs → keep cs n q rs ≡ cond (ltb (length rs) n) (rs ++ q ∷ []) (evict cs q rs)
-  keep_new e = cond_false (has_record q.command rs) _ _ (has_place q.command rs ∙ ap is_some (sym e))
+  keep_new e = cond-false (has_record q.command rs) _ _ (has_place q.command rs ∙ ap is_some (sym e))
 
   keep_last : None ≡ place_of q.command rs → length rs < n → keep cs n q rs ≡ rs ++ q ∷ []
-  keep_last e h = keep_new e ∙ cond_true (ltb (length rs) n) _ _ (lt_ltb (length rs) n h)
+  keep_last e h = keep_new e ∙ cond-true (ltb (length rs) n) _ _ (lt-ltb (length rs) n h)
 
   keep_full : None ≡ place_of q.command rs → n ≤ length rs → (o : Option ℕ) → o ≡ free_place cs rs → keep cs n q rs ≡ put_at o rs q
   keep_full e h o f =
-      keep_new e ∙ cond_false (ltb (length rs) n) _ _ (le_ltb (length rs) n h) ∙ evict_at cs q rs ∙ ap (λ p. put_at p rs q) (sym f)
+      keep_new e ∙ cond-false (ltb (length rs) n) _ _ (le-ltb (length rs) n h) ∙ evict_at cs q rs ∙ ap (λ p. put_at p rs q) (sym f)
 
 -- AND WHAT THE LIST HOLDS
 
 set_if : (xs : List Code.Record) (at : ℕ) (x : Code.Record) → cond (ltb at (length xs)) (set xs at x) xs ≡ set xs at x
 set_if xs at x =
     elim (cases_lt at (length xs)) [
-      | inl h ↦ cond_true (ltb at (length xs)) _ _ (lt_ltb at (length xs) h)
-      | inr h ↦ cond_false (ltb at (length xs)) _ _ (le_ltb at (length xs) h) ∙ sym (set_past xs at x h)
+      | inl h ↦ cond-true (ltb at (length xs)) _ _ (lt-ltb at (length xs) h)
+      | inr h ↦ cond-false (ltb at (length xs)) _ _ (le-ltb at (length xs) h) ∙ sym (set_past xs at x h)
     ]
 
 said_set : (xs ys : List Code.Record) (at : ℕ) (x : Code.Record) (r : Bool) → r ≡ ltb at (length xs) → ys ≡ cond r (set xs at x) xs → map said ys ≡ set (map said xs) at (said x)
 said_set xs ys at x r e f =
-    ap (map said) (f ∙ ap (λ b. cond b (set xs at x) xs) e ∙ set_if xs at x) ∙ map_set said xs at x
+    ap (map said) (f ∙ ap (λ b. cond b (set xs at x) xs) e ∙ set_if xs at x) ∙ map-set said xs at x
 
 module _ (cs : List Command) (n : ℕ) (x : Code.Record) (xs ys : List Code.Record) (r : Bool) where
   pub kept_found : (at : ℕ) → Some at ≡ place_of x.command (map said xs) → r ≡ ltb at (length xs) → ys ≡ cond r (set xs at x) xs → map said ys ≡ keep cs n (said x) (map said xs)
@@ -82,16 +82,16 @@ module _ (cs : List Command) (n : ℕ) (x : Code.Record) (xs ys : List Code.Reco
 
   pub kept_last : (room : ℕ) → None ≡ place_of x.command (map said xs) → length xs < n → n ≤ room → r ≡ ltb (length xs) room → ys ≡ cond r (xs ++ x ∷ []) xs → map said ys ≡ keep cs n (said x) (map said xs)
   kept_last room e h k f g =
-      let l = length_map xs said in
-      ap (map said) (g ∙ cond_true r _ _ (f ∙ lt_ltb (length xs) room (omega arith)))
+      let l = length-map xs said in
+      ap (map said) (g ∙ cond-true r _ _ (f ∙ lt-ltb (length xs) room (omega arith)))
       ∙ map-append said xs (x ∷ [])
       ∙ sym (keep_last cs n (said x) (map said xs) e (omega arith))
 
   pub kept_freed : (at : ℕ) → None ≡ place_of x.command (map said xs) → n ≤ length xs → Some at ≡ free_place cs (map said xs) → r ≡ ltb at (length xs) → ys ≡ cond r (set xs at x) xs → map said ys ≡ keep cs n (said x) (map said xs)
   kept_freed at e h k f g =
-      let l = length_map xs said in
+      let l = length-map xs said in
       said_set xs ys at x r f g ∙ sym (keep_full cs n (said x) (map said xs) e (omega arith) (Some at) k)
 
 pub kept_out : (cs : List Command) (n : ℕ) (x : Code.Record) (xs : List Code.Record) → None ≡ place_of x.command (map said xs) → n ≤ length xs → None ≡ free_place cs (map said xs) → map said xs ≡ keep cs n (said x) (map said xs)
 kept_out cs n x xs e h k =
-    let l = length_map xs said in sym (keep_full cs n (said x) (map said xs) e (omega arith) None k)
+    let l = length-map xs said in sym (keep_full cs n (said x) (map said xs) e (omega arith) None k)

@@ -1,8 +1,8 @@
 -- Laying content by content: what is left of the starting contents gives the files and the pool.
 use Rattle.std.proofs.Common.{◌≡◌, ℕ, ◌+◌, ◌<◌, ◌≤◌, Bool, true, false, cond, eqb, ltb, List, [], ◌∷◌, length, get_or, drop, set, Some, None, Ok, Err, Option, Result, sym, refl, ap, ◌∙◌, subst, arith}
 use Rattle.std.proofs.lemmas.List.{at_drop_more, at_drop_all}
-use Rattle.std.proofs.lemmas.Option.{slice_get_get_or, slice_get_past}
-use Rattle.std.proofs.lemmas.Bool.{cond_true, cond_false, eq_eqb, ne_eqb}
+use Rattle.std.proofs.lemmas.Option.{slice_get-get_or, slice_get_past}
+use Rattle.std.proofs.lemmas.Bool.{cond-true, cond-false, eq-eqb, ne_eqb}
 use Rattle.std.specs.List.{slice_get}
 use Rattle.model.specs.Calls.{on_lay}
 use Rattle.model.specs.Contents.{Pool, count, given, put, cut}
@@ -37,17 +37,17 @@ module _ (hs : List Start) (fs gs : List ℕ) (p q : Pool) (i : ℕ) (inv : Left
         ∙ sym (at_drop_more (λ l. laid l gs q) hs i h lt) ∙ inv.rest
       where
         nth_is : get_or hs i h ≡ h
-        nth_is = let e : Some h ≡ Some (get_or hs i h) = at ∙ slice_get_get_or hs i h lt in cc
+        nth_is = let e : Some h ≡ Some (get_or hs i h) = at ∙ slice_get-get_or hs i h lt in cc
 
     pub left_more : (gs' : List ℕ) (q' : Pool) (n : ℕ) → n ≡ given q h.content → (n ≡ 0 → ⊥) → gs' ≡ set gs h.file n → q' ≡ put q h.content → Left hs fs gs' p q' (i + 1)
     left_more gs' q' n e ne f r =
         record {
-          rest = rw (f, r, e) (sym (cond_false (eqb (given q h.content) 0) None _ (ne_eqb (given q h.content) 0 (λ z. ne (e ∙ z)))) ∙ here);
+          rest = rw (f, r, e) (sym (cond-false (eqb (given q h.content) 0) None _ (ne_eqb (given q h.content) 0 (λ z. ne (e ∙ z)))) ∙ here);
           began = rw r (began_put p q h.content inv.began);
         }
 
     pub left_refused : given q h.content ≡ 0 → laid hs fs p ≡ None
-    left_refused e = sym here ∙ cond_true (eqb (given q h.content) 0) None _ (eq_eqb (given q h.content) 0 e)
+    left_refused e = sym here ∙ cond-true (eqb (given q h.content) 0) None _ (eq-eqb (given q h.content) 0 e)
 
     pub pool_back : (n : ℕ) (q' z : Pool) → n ≡ count p → q' ≡ put q h.content → z ≡ cut n q' → z ≡ p
     pool_back n q' z e f s = s ∙ ap (λ k. cut k q') e ∙ ap (cut (count p)) f ∙ (began_put p q h.content inv.began).cut_is
@@ -56,7 +56,7 @@ module _ (hs : List Start) (fs gs : List ℕ) (p q : Pool) (i : ℕ) (inv : Left
   left_all h = sym (at_drop_all (λ l. laid l gs q) hs i h) ∙ inv.rest
 
   pub none_past : None ≡ slice_get hs i → i < length hs → ⊥
-  none_past e lt = let z : None ≡ Some (get_or hs i (record { file = 0; content = [] })) = e ∙ slice_get_get_or hs i (record { file = 0; content = [] }) lt in let n : ◌≡◌ {A = ℕ} 0 1 = cc in omega arith
+  none_past e lt = let z : None ≡ Some (get_or hs i (record { file = 0; content = [] })) = e ∙ slice_get-get_or hs i (record { file = 0; content = [] }) lt in let n : ◌≡◌ {A = ℕ} 0 1 = cc in omega arith
 
 -- THE CALL
 pub open_now : (hs : List Start) (w v : World) → true ≡ w.is_open → v ≡ w → Promised (on_lay hs (Err RunOpen)) w v

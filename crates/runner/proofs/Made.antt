@@ -1,6 +1,6 @@
 -- Entries counted line by line: one more at the end, the room that is left, and what they tell of a line's state.
 use Rattle.std.proofs.Common.{◌≡◌, ℕ, zero, suc, ◌+◌, ◌*◌, ◌<◌, ◌≤◌, Bool, true, false, cond, not, ◌&&◌, ◌||◌, eqb, ltb, List, [], ◌∷◌, ◌++◌, length, sym, refl, ap, ◌∙◌, inl, inr, arith}
-use Rattle.std.proofs.lemmas.Bool.{cond_true, cond_false, eq_eqb, ne_eqb, ltb_true, cases_lt, and_parts, true≢false, not_true, false≢true}
+use Rattle.std.proofs.lemmas.Bool.{cond-true, cond-false, eq-eqb, ne_eqb, ltb-true, cases_lt, and_parts, true≢false, not-true, false≢true}
 use Rattle.model.specs.declared.run.Entry.{Entry}
 use Rattle.model.specs.declared.run.LineState.TheVariants.{Waiting, Reading, Ended}
 use Rattle.model.specs.Acts.{read_absent, state_by, line_state}
@@ -55,10 +55,10 @@ total zero es = 0
 total (suc n) es = made n es + total n es
 
 made_other : (l : ℕ) (e : Entry) (es : List Entry) → (l ≡ e.line → ⊥) → made l (e ∷ es) ≡ made l es
-made_other l e es d = cond_false (eqb l e.line) (suc (made l es)) (made l es) (ne_eqb l e.line d)
+made_other l e es d = cond-false (eqb l e.line) (suc (made l es)) (made l es) (ne_eqb l e.line d)
 
 made_own : (l : ℕ) (e : Entry) (es : List Entry) → l ≡ e.line → made l (e ∷ es) ≡ suc (made l es)
-made_own l e es s = cond_true (eqb l e.line) (suc (made l es)) (made l es) (eq_eqb l e.line s)
+made_own l e es s = cond-true (eqb l e.line) (suc (made l es)) (made l es) (eq-eqb l e.line s)
 
 total_other : (n : ℕ) (e : Entry) (es : List Entry) → n ≤ e.line → total n (e ∷ es) ≡ total n es
 total_other zero e es h = refl
@@ -80,7 +80,7 @@ total_all : (n : ℕ) (es : List Entry) → all_below n es ≡ true → total n 
 total_all n [] b = total_none n
 total_all n (e ∷ es) b =
     let h = and_parts (ltb e.line n) (all_below n es) b in
-    total_own n e es (ltb_true e.line n h.0) ∙ ap suc (total_all n es h.1)
+    total_own n e es (ltb-true e.line n h.0) ∙ ap suc (total_all n es h.1)
 
 module _ (es : List Entry) (most : (l : ℕ) → made l es ≤ 17) where
   total_most : (n : ℕ) → total n es ≤ 17 * n
@@ -108,7 +108,7 @@ pub fresh_none : (l : ℕ) (es : List Entry) → fresh l es ≡ true → made l 
 fresh_none l [] h = refl
 fresh_none l (e ∷ es) h =
     let b = and_parts (not (eqb l e.line)) (fresh l es) h in
-    cond_false (eqb l e.line) (suc (made l es)) (made l es) (not_true (eqb l e.line) b.0) ∙ fresh_none l es b.1
+    cond-false (eqb l e.line) (suc (made l es)) (made l es) (not-true (eqb l e.line) b.0) ∙ fresh_none l es b.1
 
 pub ended_not_fresh : (l : ℕ) (es : List Entry) → ended l es ≡ true → fresh l es ≡ false
 ended_not_fresh l [] h = absurd (false≢true h)

@@ -1,7 +1,7 @@
 -- What a working step leaves: the record that it finds, the room that it has, the facts of a log, and the world.
 use Rattle.std.proofs.Common.{◌≡◌, ℕ, ◌+◌, ◌<◌, ◌≤◌, Bool, true, false, cond, not, ◌&&◌, ltb, List, ◌∷◌, length, get_or, set, Some, None, Option, sym, refl, ap, ◌∙◌, inl, inr, arith}
-use Rattle.std.proofs.lemmas.List.{get_or_default, get_or_set_same, get_or-set_other}
-use Rattle.std.proofs.lemmas.Bool.{and_parts, ltb_true, not_true, cases_eq}
+use Rattle.std.proofs.lemmas.List.{get_or_default, get_or-set_same, get_or-set_other}
+use Rattle.std.proofs.lemmas.Bool.{and_parts, ltb-true, not-true, cases_eq}
 use Rattle.lists.specs.Held.{held, room}
 use Rattle.engine.specs.States.{outcome}
 use Rattle.model.specs.declared.command.Command.{Command}
@@ -41,10 +41,10 @@ module _ (i : Inner) (l : ℕ) (m : left (length (notes i.run).commands) (held i
   parts = and_parts (ltb l (length (notes i.run).commands)) (not (ended l (held i.entries))) m
 
   is_line : l < i.run.lines
-  is_line = omega (arith, ltb_true l (length (notes i.run).commands) parts.0, lines_counted i.run)
+  is_line = omega (arith, ltb-true l (length (notes i.run).commands) parts.0, lines_counted i.run)
 
   not_ended : ended l (held i.entries) ≡ false
-  not_ended = not_true (ended l (held i.entries)) parts.1
+  not_ended = not-true (ended l (held i.entries)) parts.1
 
   within : i.run.lines ≤ length i.run.commands
   within = let a = i.run.long in let b = i.run.few in omega arith
@@ -83,7 +83,7 @@ module _ (i : Inner) (l : ℕ) (m : left (length (notes i.run).commands) (held i
           ];
           follows = λ o h. elim (cases_eq o l) [
             | inl e ↦
-                let at : get_or j.run.states l Waiting ≡ st = ap (λ t. get_or t l Waiting) s ∙ get_or_set_same i.run.states l st Waiting has_state in
+                let at : get_or j.run.states l Waiting ≡ st = ap (λ t. get_or t l Waiting) s ∙ get_or-set_same i.run.states l st Waiting has_state in
                 rw e (ap is_ended at ∙ state_ended k l p (held j.entries), ap is_waiting at ∙ state_waiting k l p (held j.entries))
             | inr d ↦
                 let at : get_or j.run.states o Waiting ≡ get_or i.run.states o Waiting = ap (λ t. get_or t o Waiting) s ∙ get_or-set_other i.run.states l o st Waiting d in

@@ -1,6 +1,6 @@
 -- A run that begins: its commands copied into 64 places, its log emptied, and what is always so of it.
 use Rattle.std.proofs.Common.{◌≡◌, ℕ, ◌+◌, ◌-◌, ◌*◌, ◌<◌, ◌≤◌, Bool, true, cond, List, [], ◌++◌, length, get_or, take, drop, replicate, None, sym, ap, ◌∙◌, arith}
-use Rattle.std.proofs.lemmas.List.{length-append, length_drop, take_at, get_or-replicate}
+use Rattle.std.proofs.lemmas.List.{length-append, length-drop, take_at, get_or-replicate}
 use Rattle.lists.specs.Held.{held, room}
 use Rattle.model.specs.Begin.{begun}
 use Rattle.model.specs.Contents.{Pool, count}
@@ -21,7 +21,7 @@ module _ {X : Type 0} (xs ys zs : List X) (same : ys ≡ zs) (few : length zs �
   length_copied =
       let l = ap length same in
       let a = length-append ys (drop (length zs - 0) xs) in
-      let b = length_drop (length zs - 0) xs in
+      let b = length-drop (length zs - 0) xs in
       omega arith
 
 pub take_copied : {X : Type 0} (ys zs rest : List X) → ys ≡ zs → take (length zs) (ys ++ rest) ≡ zs

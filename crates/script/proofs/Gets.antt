@@ -1,8 +1,8 @@
 -- What the tables hold at a place.
 use Rattle.std.proofs.Common.{◌≡◌, ℕ, zero, suc, ◌-◌, ◌<◌, ◌≤◌, min, ◌⊎◌, List, [], ◌∷◌, map, length, get_or, take, Some, None, sym, refl, ap, ◌∙◌, inl, inr, ⊎_elim, arith, Bor}
-use Rattle.std.proofs.lemmas.List.{length-take, length_map, take_all, get_or_take, get_or_map, get_or_past}
+use Rattle.std.proofs.lemmas.List.{length-take, length-map, take_all, get_or-take, get_or-map, get_or_past}
 use Rattle.std.proofs.lemmas.Bool.{cases_lt}
-use Rattle.std.proofs.lemmas.Option.{slice_get_get_or, slice_get_past}
+use Rattle.std.proofs.lemmas.Option.{slice_get-get_or, slice_get_past}
 use Rattle.std.specs.List.{slice_get}
 use Rattle.script.proofs.Adds.{length_paired}
 use Rattle.script.specs.Views.{paired}
@@ -18,15 +18,15 @@ module _ (fs : List ℕ) (rs : List (Bor (List ℕ))) (n i : ℕ) where
   have_get d e h l m =
       let t = length-take n fs in
       let u = length-take n rs in
-      ap (λ f. Some (record { file = f; content = (get_or rs i e).now })) (sym (get_or_take n fs i d h))
-      ∙ ap (λ r. Some (record { file = get_or (take n fs) i d; content = r.now })) (sym (get_or_take n rs i e h))
+      ap (λ f. Some (record { file = f; content = (get_or rs i e).now })) (sym (get_or-take n fs i d h))
+      ∙ ap (λ r. Some (record { file = get_or (take n fs) i d; content = r.now })) (sym (get_or-take n rs i e h))
       ∙ sym (nth_paired (take n fs) (take n rs) i d e (omega arith) (omega arith))
 
   pub have_none : (m : ℕ) → length fs ≡ m → length rs ≡ m → (n ≤ i) ⊎ ((i < n) × (m ≤ i)) → None ≡ slice_get (paired (take n fs) (map (λ x. x.now) (take n rs))) i
   have_none m k l h =
       let t = length-take n fs in
       let u = length-take n rs in
-      let v = length_map (take n rs) (λ x. x.now) in
+      let v = length-map (take n rs) (λ x. x.now) in
       let p = length_paired (take n fs) (map (λ x. x.now) (take n rs)) (omega arith) in
       let past : length (paired (take n fs) (map (λ x. x.now) (take n rs))) ≤ i = ⊎_elim (λ q. omega arith) (λ q. omega arith) h in
       sym (slice_get_past (paired (take n fs) (map (λ x. x.now) (take n rs))) i past)
@@ -34,10 +34,10 @@ module _ (fs : List ℕ) (rs : List (Bor (List ℕ))) (n i : ℕ) where
 -- the label at a place, and none past the last
 module _ (rs : List (Bor (List ℕ))) (i : ℕ) where
   pub label_get : (d : Bor (List ℕ)) → i < length rs → (get_or rs i d).now ≡ get_or (map (λ x. x.now) rs) i []
-  label_get d h = sym (get_or_map (λ x. x.now) rs i d [] h)
+  label_get d h = sym (get_or-map (λ x. x.now) rs i d [] h)
 
   pub label_none : length rs ≤ i → [] ≡ get_or (map (λ x. x.now) rs) i []
-  label_none h = let l = length_map rs (λ x. x.now) in sym (get_or_past (map (λ x. x.now) rs) i [] (omega arith))
+  label_none h = let l = length-map rs (λ x. x.now) in sym (get_or_past (map (λ x. x.now) rs) i [] (omega arith))
 
 -- a part from the start that ends within the list
 pub front_part : {X : Type 0} (xs : List X) (n m : ℕ) → m ≡ min n (length xs) → take (m - 0) xs ≡ take n xs
@@ -52,6 +52,6 @@ pub haves_counted : (fs : List ℕ) (rs : List (Bor (List ℕ))) (n k : ℕ) →
 haves_counted fs rs n k same e =
     let t = length-take n fs in
     let u = length-take n rs in
-    let v = length_map (take n rs) (λ x. x.now) in
+    let v = length-map (take n rs) (λ x. x.now) in
     let p = length_paired (take n fs) (map (λ x. x.now) (take n rs)) (omega arith) in
     omega arith

@@ -1,6 +1,6 @@
 -- The search for a label, and for several.
-use Rattle.std.proofs.Common.{◌≡◌, ℕ, suc, ◌+◌, ◌-◌, ◌<◌, ◌≤◌, true, false, cond, List, [], ◌∷◌, ◌++◌, map, length, get_or, take, drop, set, replicate, Some, None, Option, sym, refl, ap, ◌∙◌, append_assoc, append_nil, arith, Bor}
-use Rattle.std.proofs.lemmas.List.{at_drop_more, at_drop_all, get_or_map, length_map, take_more_set, drop_set_lt, drop_drop, drop-replicate, take-append-drop, length-take-le, length_set}
+use Rattle.std.proofs.Common.{◌≡◌, ℕ, suc, ◌+◌, ◌-◌, ◌<◌, ◌≤◌, true, false, cond, List, [], ◌∷◌, ◌++◌, map, length, get_or, take, drop, set, replicate, Some, None, Option, sym, refl, ap, ◌∙◌, append_assoc, append-nil, arith, Bor}
+use Rattle.std.proofs.lemmas.List.{at_drop_more, at_drop_all, get_or-map, length-map, take_more_set, drop-set-lt, drop-drop, drop-replicate, take-append-drop, length-take-le, length-set}
 use Rattle.std.specs.Option.{option_map}
 use Rattle.std.specs.Str.{bytes_eq}
 use Rattle.script.specs.Text.{file_of, before, files_of}
@@ -11,8 +11,8 @@ Ref = Bor (List ℕ)
 
 at_refs : {Y : Type 0} (F : List (List ℕ) → Y) (rs : List Ref) (i : ℕ) (d : Ref) → i < length rs → F (drop i (map (λ x. x.now) rs)) ≡ F ((get_or rs i d).now ∷ drop (i + 1) (map (λ x. x.now) rs))
 at_refs F rs i d h =
-    let l = length_map rs (λ x. x.now) in
-    at_drop_more F (map (λ x. x.now) rs) i [] (omega arith) ∙ ap (λ x. F (x ∷ drop (i + 1) (map (λ x. x.now) rs))) (get_or_map (λ x. x.now) rs i d [] h)
+    let l = length-map rs (λ x. x.now) in
+    at_drop_more F (map (λ x. x.now) rs) i [] (omega arith) ∙ ap (λ x. F (x ∷ drop (i + 1) (map (λ x. x.now) rs))) (get_or-map (λ x. x.now) rs i d [] h)
 
 mapped_mapped : {X Y Z : Type 0} (f : X → Y) (g : Y → Z) (h : X → Z) → ((x : X) → g (f x) ≡ h x) → (o : Option X) → option_map g (option_map f o) ≡ option_map h o
 mapped_mapped f g h e None = refl
@@ -47,7 +47,7 @@ module _ (rs : List Ref) (w : List ℕ) (i : ℕ) (d : Ref) (inv : Sought rs w i
 
 pub sought_all : (rs : List Ref) (w : List ℕ) (i : ℕ) (inv : Sought rs w i) → length rs ≤ i → None ≡ file_of (map (λ x. x.now) rs) w
 sought_all rs w i inv h =
-    let l = length_map rs (λ x. x.now) in
+    let l = length-map rs (λ x. x.now) in
     ap (option_map (λ n. i + n)) (sym (at_drop_all (λ s. file_of s w) (map (λ x. x.now) rs) i (omega arith))) ∙ inv
 
 -- the first i files are found, and the others are 0
@@ -80,18 +80,18 @@ module _ (ls : List (List ℕ)) (rs : List Ref) (files : List ℕ) (i : ℕ) (in
             sym (mapped_mapped (λ fs. f ∷ fs) (λ fs. take i files ++ fs) (λ fs. take (i + 1) (set files i f) ++ fs) front (files_of ls (drop (i + 1) (map (λ x. x.now) rs))))
             ∙ ap after_i e ∙ from_i d h;
         zeros =
-            drop_set_lt (i + 1) files i f (omega arith) ∙ sym (drop_drop 1 i files) ∙ ap (drop 1) inv.zeros
+            drop-set-lt (i + 1) files i f (omega arith) ∙ sym (drop-drop 1 i files) ∙ ap (drop 1) inv.zeros
             ∙ drop-replicate 1 (4 - i) 0 ∙ ap (λ n. replicate n 0) less;
-        long = length_set files i f ∙ inv.long;
+        long = length-set files i f ∙ inv.long;
       }
 
   pub filled_all : length rs ≤ i → i ≤ 4 → Some files ≡ option_map four (files_of ls (map (λ x. x.now) rs))
   filled_all h low =
-      let l = length_map rs (λ x. x.now) in
+      let l = length-map rs (λ x. x.now) in
       let m = inv.long in
       let t : length (take i files) ≡ i = length-take-le i files (omega arith) in
       let whole : four (take i files) ≡ files =
       ap (λ n. take i files ++ replicate (4 - n) 0) t ∙ ap (λ r. take i files ++ r) (sym inv.zeros) ∙ take-append-drop i files in
-      ap Some (sym whole ∙ ap four (sym (append_nil (take i files))))
+      ap Some (sym whole ∙ ap four (sym (append-nil (take i files))))
       ∙ ap (λ o. option_map four (option_map (λ fs. take i files ++ fs) o)) (sym (at_drop_all (files_of ls) (map (λ x. x.now) rs) i (omega arith)))
       ∙ ap (option_map four) inv.rest

@@ -1,9 +1,9 @@
 -- Each script that is read is sound.
 use Rattle.std.proofs.Common.{◌≡◌, ℕ, zero, suc, ◌+◌, ◌-◌, ◌<◌, ◌≤◌, true, false, cond, not, ◌&&◌, eqb, ltb, leb, List, [], ◌∷◌, length, get_or, set, replicate, is_some, Some, None, Ok, Err, Option, Result, sym, refl, ap, ◌∙◌, subst, inl, inr, arith}
-use Rattle.std.proofs.ByRecursion.{AllPush}
-use Rattle.std.proofs.lemmas.Slice.Eq.{bytes_eq_Decides}
-use Rattle.std.proofs.lemmas.List.{length_set, length_push, get_or_set_same, get_or-set_other, get_or-replicate}
-use Rattle.std.proofs.lemmas.Bool.{cond_true, cond_false, cond_both, both_ways, cases_Bool, cases_eq, ltb_true, ltb-false, leb_true, and_parts, not_true}
+use Rattle.std.proofs.ByRecursion.{All-push}
+use Rattle.std.proofs.lemmas.Slice.Eq.{bytes_eq-Decides}
+use Rattle.std.proofs.lemmas.List.{length-set, length_push, get_or-set_same, get_or-set_other, get_or-replicate}
+use Rattle.std.proofs.lemmas.Bool.{cond-true, cond-false, cond_both, both_ways, cases_Bool, cases_eq, ltb-true, ltb-false, leb-true, and_parts, not-true}
 use Rattle.std.specs.Option.{option_map}
 use Rattle.std.specs.List.{AllByRecursion as All}
 use Rattle.std.specs.Str.{bytes_eq}
@@ -27,9 +27,9 @@ file_low : (ls : List (List ℕ)) (w : List ℕ) (n : ℕ) → file_of ls w ≡ 
 file_low [] w n e = let z : ◌≡◌ {A = ℕ} 0 1 = cc in absurd (omega arith)
 file_low (l ∷ ls) w n e =
     elim (cases_Bool (bytes_eq l w)) [
-      | inl t ↦ (let z : n ≡ 0 = cc (cond_true (bytes_eq l w) (Some 0) (option_map suc (file_of ls w)) t) in omega arith)
+      | inl t ↦ (let z : n ≡ 0 = cc (cond-true (bytes_eq l w) (Some 0) (option_map suc (file_of ls w)) t) in omega arith)
       | inr f ↦
-          (let less = mapped_suc (file_of ls w) n (sym (cond_false (bytes_eq l w) (Some 0) (option_map suc (file_of ls w)) f) ∙ e) in
+          (let less = mapped_suc (file_of ls w) n (sym (cond-false (bytes_eq l w) (Some 0) (option_map suc (file_of ls w)) f) ∙ e) in
           omega (arith, file_low ls w less.0 less.2, less.1))
     ]
 
@@ -38,16 +38,16 @@ mapped_none None e = refl
 mapped_none (Some m) e = e
 
 taken_label : (l : List ℕ) (ls : List (List ℕ)) (w : List ℕ) → is_some (file_of (l ∷ ls) w) ≡ false → bytes_eq l w ≡ true → ⊥
-taken_label l ls w e t = both_ways _ e (ap is_some (cond_true (bytes_eq l w) (Some 0) (option_map suc (file_of ls w)) t))
+taken_label l ls w e t = both_ways _ e (ap is_some (cond-true (bytes_eq l w) (Some 0) (option_map suc (file_of ls w)) t))
 
 new_label : (ls : List (List ℕ)) (w : List ℕ) → is_some (file_of ls w) ≡ false → (k : ℕ) → k < length ls → get_or ls k [] ≡ w → ⊥
 new_label [] w e k h f = absurd (omega arith)
-new_label (l ∷ ls) w e zero h f = taken_label l ls w e ((bytes_eq_Decides l w).1 f)
+new_label (l ∷ ls) w e zero h f = taken_label l ls w e ((bytes_eq-Decides l w).1 f)
 new_label (l ∷ ls) w e (suc k) h f =
     elim (cases_Bool (bytes_eq l w)) [
       | inl t ↦ taken_label l ls w e t
       | inr g ↦
-          new_label ls w (mapped_none (file_of ls w) (ap is_some (sym (cond_false (bytes_eq l w) (Some 0) (option_map suc (file_of ls w)) g)) ∙ e)) k (omega arith) f
+          new_label ls w (mapped_none (file_of ls w) (ap is_some (sym (cond-false (bytes_eq l w) (Some 0) (option_map suc (file_of ls w)) g)) ∙ e)) k (omega arith) f
     ]
 
 before_some : (o : Option ℕ) (p : Option (List ℕ)) (fs : List ℕ) → before o p ≡ Some fs → (f : ℕ) × (gs : List ℕ) × (o ≡ Some f) × (p ≡ Some gs) × (f ∷ gs ≡ fs)
@@ -99,11 +99,11 @@ module _ (s : Meaning) (ok : Sound s) where
   label_apart : (n : ℕ) (w : List ℕ) → is_some (file_of s.labels w) ≡ false → LabelsApart (with_label s n w)
   label_apart n w new i j (some, same) =
       let ls = s.labels in
-      let l = length_set ls n w ∙ ok.labels in
+      let l = length-set ls n w ∙ ok.labels in
       let h : i < 64 = omega (arith, placed (set ls n w) i some) in
       let k : j < 64 = omega (arith, placed (set ls n w) j (subst (λ (x : List ℕ). 0 < length x) same some)) in
       let here : (m : ℕ) → m < 64 → m ≡ n → get_or (set ls n w) m [] ≡ w =
-      λ m lt e. ap (λ x. get_or (set ls n w) x []) e ∙ get_or_set_same ls n w [] (omega (arith, lt, e)) in
+      λ m lt e. ap (λ x. get_or (set ls n w) x []) e ∙ get_or-set_same ls n w [] (omega (arith, lt, e)) in
       let other : (m : ℕ) → (m ≡ n → ⊥) → get_or (set ls n w) m [] ≡ get_or ls m [] = λ m ne. get_or-set_other ls n m w [] ne in
       elim (cases_eq i n) [
         | inl a ↦
@@ -124,9 +124,9 @@ module _ (s : Meaning) (ok : Sound s) where
       (λ t.
       let f = and_parts (eqb (length (get_or s.labels n [])) 0) (not (is_some (file_of s.labels w))) (and_parts (is_label w) (free s n w) t).1 in
       record {
-        labels = length_set s.labels n w ∙ ok.labels;
-        short = short_set s.labels n w (leb_true (length w) 16 (and_parts (leb (length w) 16) (all label_byte w) (and_parts (is_label w) (free s n w) t).0).0) ok.short;
-        apart = label_apart n w (not_true (is_some (file_of s.labels w)) f.1);
+        labels = length-set s.labels n w ∙ ok.labels;
+        short = short_set s.labels n w (leb-true (length w) 16 (and_parts (leb (length w) 16) (all label_byte w) (and_parts (is_label w) (free s n w) t).0).0) ok.short;
+        apart = label_apart n w (not-true (is_some (file_of s.labels w)) f.1);
         haves = ok.haves;
         commands = ok.commands;
         starts = ok.starts;
@@ -144,9 +144,9 @@ module _ (s : Meaning) (ok : Sound s) where
         labels = ok.labels;
         short = ok.short;
         apart = ok.apart;
-        haves = omega (arith, ltb_true (length s.haves) 64 room);
+        haves = omega (arith, ltb-true (length s.haves) 64 room);
         commands = ok.commands;
-        starts = AllPush Starts s.haves h ok.starts (low, ltb-false 4096 (length c) short);
+        starts = All-push Starts s.haves h ok.starts (low, ltb-false 4096 (length c) short);
         acts = ok.acts;
       })
       (λ full. tt))
@@ -160,9 +160,9 @@ module _ (s : Meaning) (ok : Sound s) where
         short = ok.short;
         apart = ok.apart;
         haves = ok.haves;
-        commands = omega (arith, ltb_true (length s.commands) 64 room);
+        commands = omega (arith, ltb-true (length s.commands) 64 room);
         starts = ok.starts;
-        acts = AllPush Acts s.commands k ok.acts acts;
+        acts = All-push Acts s.commands k ok.acts acts;
       })
       (λ full. tt)
 

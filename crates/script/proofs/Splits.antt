@@ -1,6 +1,6 @@
 -- The loop that takes the words of a text line.
-use Rattle.std.proofs.Common.{◌≡◌, ℕ, ◌+◌, ◌<◌, ◌≤◌, List, [], ◌∷◌, ◌++◌, map, length, take, drop, set, sym, ap, ◌∙◌, append_assoc, append_nil, arith, Bor}
-use Rattle.std.proofs.lemmas.List.{length_map, length_set, length-take-le, take_more_set, take_all, take_at, map_push}
+use Rattle.std.proofs.Common.{◌≡◌, ℕ, ◌+◌, ◌<◌, ◌≤◌, List, [], ◌∷◌, ◌++◌, map, length, take, drop, set, sym, ap, ◌∙◌, append_assoc, append-nil, arith, Bor}
+use Rattle.std.proofs.lemmas.List.{length-map, length-set, length-take-le, take_more_set, take_all, take_at, map_push}
 use Rattle.script.specs.Text.{words}
 use Rattle.script.specs.Words.{FirstWord}
 
@@ -22,13 +22,13 @@ module _ (line : List ℕ) (from : ℕ) (list : List (Bor (List ℕ))) (count at
             ∙ append_assoc (map (λ x. x.now) (take count list)) (w.now ∷ []) (words (drop (start + length w.now) line))
             ∙ ap (λ ws. map (λ x. x.now) (take count list) ++ ws) (sym first.first)
             ∙ inv.split;
-        long = length_set list count w ∙ inv.long;
+        long = length-set list count w ∙ inv.long;
         few = omega arith;
         within = first.within;
       }
 
   held : length (map (λ x. x.now) (take count list)) ≡ count
-  held = let l = inv.long in let f = inv.few in length_map (take count list) (λ x. x.now) ∙ length-take-le count list (omega arith)
+  held = let l = inv.long in let f = inv.few in length-map (take count list) (λ x. x.now) ∙ length-take-le count list (omega arith)
 
   pub six : 6 ≤ count → map (λ x. x.now) (take count list) ≡ take 6 (words (drop from line))
   six h =
@@ -41,4 +41,4 @@ module _ (line : List ℕ) (from : ℕ) (list : List (Bor (List ℕ))) (count at
       let f = inv.few in
       let l = held in
       sym (take_all 6 (map (λ x. x.now) (take count list)) (omega arith))
-      ∙ ap (take 6) (sym (append_nil (map (λ x. x.now) (take count list))) ∙ ap (λ ws. map (λ x. x.now) (take count list) ++ ws) (sym e) ∙ inv.split)
+      ∙ ap (take 6) (sym (append-nil (map (λ x. x.now) (take count list))) ∙ ap (λ ws. map (λ x. x.now) (take count list) ++ ws) (sym e) ∙ inv.split)

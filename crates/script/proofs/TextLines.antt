@@ -1,7 +1,7 @@
 -- What the words of a text line add, from what the calls for its parts say.
 use Rattle.std.proofs.Common.{◌≡◌, ℕ, zero, suc, ◌-◌, ◌<◌, ◌≤◌, true, false, eqb, List, [], ◌∷◌, ◌++◌, map, length, get_or, take, drop, replicate, Some, None, Ok, Err, Option, Result, sym, refl, ap, ◌∙◌, arith, Bor}
-use Rattle.std.proofs.lemmas.List.{length_map, length_drop, take_all}
-use Rattle.std.proofs.lemmas.Bool.{cond_true, cond_false, eq_eqb, ne_eqb}
+use Rattle.std.proofs.lemmas.List.{length-map, length-drop, take_all}
+use Rattle.std.proofs.lemmas.Bool.{cond-true, cond-false, eq-eqb, ne_eqb}
 use Rattle.std.specs.Option.{option_map}
 use Rattle.model.specs.declared.refusal.Refusal.{Refusal}
 use Rattle.model.specs.declared.refusal.Refusal.TheVariants.{BadTextLine, BadLabel}
@@ -70,13 +70,13 @@ module _ (s : Meaning) (k : Kind) (rs : List Ref) where
 
   pub few_labels : (length rs ≡ arity k → ⊥) → Err BadTextLine ≡ command_line s k (map (λ x. x.now) rs)
   few_labels h =
-      let l = length_map rs (λ x. x.now) in
-      sym (cond_false (eqb (length (map (λ x. x.now) rs)) (arity k)) _ _ (ne_eqb _ (arity k) (λ e. h (sym l ∙ e))))
+      let l = length-map rs (λ x. x.now) in
+      sym (cond-false (eqb (length (map (λ x. x.now) rs)) (arity k)) _ _ (ne_eqb _ (arity k) (λ e. h (sym l ∙ e))))
 
   enough : length rs ≡ arity k → given (files_of s.labels (map (λ x. x.now) rs)) (λ fs. add_command s (command_on k fs)) ≡ command_line s k (map (λ x. x.now) rs)
   enough h =
-      let l = length_map rs (λ x. x.now) in
-      sym (cond_true (eqb (length (map (λ x. x.now) rs)) (arity k)) _ _ (eq_eqb _ (arity k) (l ∙ h)))
+      let l = length-map rs (λ x. x.now) in
+      sym (cond-true (eqb (length (map (λ x. x.now) rs)) (arity k)) _ _ (eq-eqb _ (arity k) (l ∙ h)))
 
   pub no_files : length rs ≡ arity k → None ≡ option_map four (files_of s.labels (map (λ x. x.now) rs)) → Err BadLabel ≡ command_line s k (map (λ x. x.now) rs)
   no_files h e = given_none four (λ fs. add_command s (command_on k fs)) (files_of s.labels (map (λ x. x.now) rs)) e ∙ unpadded (files_of s.labels (map (λ x. x.now) rs)) ∙ enough h
@@ -105,7 +105,7 @@ arity_low Tally = omega arith
 arity_low Check = omega arith
 
 command_long : (s : Meaning) (k : Kind) (ws : List (List ℕ)) → 5 ≤ length ws → command_line s k ws ≡ Err BadTextLine
-command_long s k ws h = let l = arity_low k in cond_false (eqb (length ws) (arity k)) _ _ (ne_eqb (length ws) (arity k) (omega arith))
+command_long s k ws h = let l = arity_low k in cond-false (eqb (length ws) (arity k)) _ _ (ne_eqb (length ws) (arity k) (omega arith))
 
 verb_long : (s : Meaning) (v : Option Verb) (a b c d e : List ℕ) (ws : List (List ℕ)) → verb_line s v (a ∷ b ∷ c ∷ d ∷ e ∷ []) ≡ verb_line s v (a ∷ b ∷ c ∷ d ∷ e ∷ ws)
 verb_long s None a b c d e ws = refl
@@ -126,11 +126,11 @@ six_words s (w ∷ a ∷ b ∷ c ∷ d ∷ e ∷ ws) = verb_long s (verb_of w) a
 
 pub line_taken : (s : Meaning) (line : List ℕ) (rs : List Ref) (r : Answer) → true ≡ all plain line → map (λ x. x.now) rs ≡ take 6 (words line) → r ≡ words_line s (map (λ x. x.now) rs) → r ≡ line_adds s line
 line_taken s line rs r p e f =
-    f ∙ ap (words_line s) e ∙ six_words s (words line) ∙ sym (cond_true (all plain line) (words_line s (words line)) (Err BadTextLine) (sym p))
+    f ∙ ap (words_line s) e ∙ six_words s (words line) ∙ sym (cond-true (all plain line) (words_line s (words line)) (Err BadTextLine) (sym p))
 
 pub line_refused : (s : Meaning) (line : List ℕ) → false ≡ all plain line → Err BadTextLine ≡ line_adds s line
-line_refused s line p = sym (cond_false (all plain line) (words_line s (words line)) (Err BadTextLine) (sym p))
+line_refused s line p = sym (cond-false (all plain line) (words_line s (words line)) (Err BadTextLine) (sym p))
 
 -- the part of a list from a place on
 pub end_part : (xs : List ℕ) (n : ℕ) → take (length xs - n) (drop n xs) ≡ drop n xs
-end_part xs n = let l = length_drop n xs in take_all (length xs - n) (drop n xs) (omega arith)
+end_part xs n = let l = length-drop n xs in take_all (length xs - n) (drop n xs) (omega arith)

@@ -1,7 +1,7 @@
 -- One turn of the loop over the text lines.
 use Rattle.std.proofs.Common.{◌≡◌, ℕ, ◌+◌, ◌-◌, ◌<◌, ◌≤◌, ltb, List, length, get_or, take, drop, Ok, Err, sym, ap, ◌∙◌, arith}
-use Rattle.std.proofs.lemmas.List.{drop_all, drop_take}
-use Rattle.std.proofs.lemmas.Bool.{cond_false, le_ltb}
+use Rattle.std.proofs.lemmas.List.{drop_all, drop-take}
+use Rattle.std.proofs.lemmas.Bool.{cond-false, le-ltb}
 use Rattle.script.proofs.Cuts.{line_first}
 use Rattle.model.specs.declared.refusal.Refusal.{Refusal}
 use Rattle.model.specs.declared.refusal.Refusal.TheVariants.{TextTooLong}
@@ -15,7 +15,7 @@ pub record Left (text : List ℕ) (s : Meaning) (n at : ℕ) : Type 0 where
 
 module _ (text : List ℕ) (s : Meaning) (n at : ℕ) (inv : Left text s n at) where
   all_read : from_line (lines text) 1 nothing ≡ reading text
-  all_read = sym (cond_false (ltb 16384 (length text)) (Err (record { refusal = TextTooLong; line = 0 })) (from_line (lines text) 1 nothing) (le_ltb 16384 (length text) inv.short))
+  all_read = sym (cond-false (ltb 16384 (length text)) (Err (record { refusal = TextTooLong; line = 0 })) (from_line (lines text) 1 nothing) (le-ltb 16384 (length text) inv.short))
 
   pub at_end : length text ≤ at → Ok s ≡ reading text
   at_end h = ap (λ bs. from_line (lines bs) n s) (sym (drop_all at text h)) ∙ inv.rest ∙ all_read
@@ -23,7 +23,7 @@ module _ (text : List ℕ) (s : Meaning) (n at : ℕ) (inv : Left text s n at) w
   module _ (end : ℕ) (some : at < length text) (low : at ≤ end) (within : end ≤ length text) (without : (k : ℕ) → at ≤ k → k < end → get_or text k 0 ≡ 10 → ⊥) (ends : end < length text → get_or text end 0 ≡ 10) where
     -- the text line, as the end of the text up to its last byte
     the_line : drop at (take (end - 0) text) ≡ take (end - at) (drop at text)
-    the_line = let e : at + (end - at) ≡ end - 0 = omega arith in ap (λ m. drop at (take m text)) (sym e) ∙ drop_take at (end - at) text
+    the_line = let e : at + (end - at) ≡ end - 0 = omega arith in ap (λ m. drop at (take m text)) (sym e) ∙ drop-take at (end - at) text
 
     one_line : then n (line_adds s (take (end - at) (drop at text))) (from_line (lines (drop (end + 1) text)) (n + 1)) ≡ from_line (lines text) 1 nothing
     one_line = ap (λ ls. from_line ls n s) (sym (line_first text at end low within 10 some without ends)) ∙ inv.rest

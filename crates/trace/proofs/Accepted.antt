@@ -1,7 +1,7 @@
 -- An accepted file is what its trace is written as, and the trace is lawful.
-use Rattle.std.proofs.Common.{◌≡◌, ℕ, ◌+◌, Bool, true, false, cond, not, ◌&&◌, eqb, leb, List, [], ◌∷◌, ◌++◌, length, Some, None, Ok, Err, Option, sym, refl, ap, ◌∙◌, append_nil, arith}
+use Rattle.std.proofs.Common.{◌≡◌, ℕ, ◌+◌, Bool, true, false, cond, not, ◌&&◌, eqb, leb, List, [], ◌∷◌, ◌++◌, length, Some, None, Ok, Err, Option, sym, refl, ap, ◌∙◌, append-nil, arith}
 use Rattle.std.proofs.lemmas.List.{nil_from_length}
-use Rattle.std.proofs.lemmas.Bool.{and_from, eqb_true}
+use Rattle.std.proofs.lemmas.Bool.{and_from, eqb-true}
 use Rattle.std.specs.List.{flat_map}
 use Rattle.model.specs.Contents.{Content, mem}
 use Rattle.model.specs.Numbers.{kind_number}
@@ -35,7 +35,7 @@ content_back es bs x cs h e =
 
 -- the number of a kind that a number tells is that number
 kind_step : (t : Bool) (b n : ℕ) → eqb b n ≡ t → (j k : Kind) → kind_number j ≡ n → (others : Option Kind) → (others ≡ Some k → kind_number k ≡ b) → cond t (Some j) others ≡ Some k → kind_number k ≡ b
-kind_step true b n e j k same others h f = let g : k ≡ j = cc in ap kind_number g ∙ same ∙ sym (eqb_true b n e)
+kind_step true b n e j k same others h f = let g : k ≡ j = cc in ap kind_number g ∙ same ∙ sym (eqb-true b n e)
 kind_step false b n e j k same others h f = h f
 
 kind_same : (b : ℕ) (k : Kind) → kind_of b ≡ Some k → kind_number k ≡ b
@@ -131,7 +131,7 @@ ended_back : (bs : List ℕ) (t u : Traced) → ended bs t ≡ Ok u → (bs ≡ 
 ended_back bs t u e = by (eqb (length bs) 0) refl e
   where
     by : (b : Bool) → eqb (length bs) 0 ≡ b → cond b (Ok t) (Err TraceLength) ≡ Ok u → (bs ≡ []) × (t ≡ u)
-    by true h f = (nil_from_length bs (eqb_true (length bs) 0 h), cc)
+    by true h f = (nil_from_length bs (eqb-true (length bs) 0 h), cc)
     by false h f = let z : ◌≡◌ {A = ℕ} 0 1 = cc in absurd (omega arith)
 
 pub accepted : (bs : List ℕ) (t : Traced) → Bytes bs → decoded bs ≡ Ok t → (encoded t ≡ bs) × (lawful t ≡ true)
@@ -159,7 +159,7 @@ accepted bs t ok e =
     let u : Traced = record { contents = a.value; records = b.value } in
     let z = ended_back b.rest u t f.1 in (
       ap encoded (sym z.1)
-          ∙ sym (append_nil (encoded u))
+          ∙ sym (append-nil (encoded u))
           ∙ ap (λ x. encoded u ++ x) (sym z.0)
           ∙ ap (λ x. (((two_bytes x ++ flat_map content_bytes a.value) ++ two_bytes (length b.value)) ++ flat_map record_bytes b.value) ++ b.rest) cs.2
           ∙ ap (λ x. (((two_bytes n.value ++ flat_map content_bytes a.value) ++ two_bytes x) ++ flat_map record_bytes b.value) ++ b.rest) rs.2

@@ -1,7 +1,7 @@
 -- What is known of what was read: how it is written, and that it is lawful.
 use Rattle.std.proofs.Common.{◌≡◌, ℕ, zero, suc, ◌+◌, ◌*◌, ◌/◌, ◌%◌, ◌<◌, Bool, true, false, cond, leb, List, [], ◌∷◌, ◌++◌, length, take, drop, Ok, Err, Result, sym, refl, ap, ◌∙◌, subst, append_assoc, arith}
 use Rattle.std.proofs.lemmas.List.{take-append-drop, length-take-le}
-use Rattle.std.proofs.lemmas.Bool.{leb_true, and_from}
+use Rattle.std.proofs.lemmas.Bool.{leb-true, and_from}
 use Rattle.std.specs.List.{flat_map}
 use Rattle.trace.specs.Laws.{Bytes}
 use Rattle.trace.specs.Format.{a_file}
@@ -80,7 +80,7 @@ piece_back n bs c cs e = by (leb n (length bs)) refl e
     by true l f =
         let x = sym (same_value (take n bs) c (drop n bs) cs f) in
         let y = sym (same_rest (take n bs) c (drop n bs) cs f) in
-        (ap (λ a. a ++ cs) x ∙ ap (λ a. take n bs ++ a) y ∙ take-append-drop n bs, ap length x ∙ length-take-le n bs (leb_true n (length bs) l))
+        (ap (λ a. a ++ cs) x ∙ ap (λ a. take n bs ++ a) y ∙ take-append-drop n bs, ap length x ∙ length-take-le n bs (leb-true n (length bs) l))
     by false l f = let z : ◌≡◌ {A = ℕ} 0 1 = cc in absurd (omega arith)
 
 -- a field with a limit

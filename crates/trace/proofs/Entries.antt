@@ -1,6 +1,6 @@
 -- The loop that takes the records, and what is asked of some records.
 use Rattle.std.proofs.Common.{◌≡◌, ℕ, suc, ◌+◌, ◌-◌, ◌<◌, ◌≤◌, Bool, List, [], ◌∷◌, ◌++◌, map, length, take, set, Err, sym, refl, ap, ◌∙◌, arith}
-use Rattle.std.proofs.lemmas.List.{length_set, take_more_set}
+use Rattle.std.proofs.lemmas.List.{length-set, take_more_set}
 use Rattle.model.specs.Records.{Record, said}
 use Rattle.model.specs.declared.command.Command.{Command}
 use Rattle.model.specs.declared.record.Record as Code
@@ -54,7 +54,7 @@ module _ (answer : Reading ℕ) (m n : ℕ) (list : List Command) (high i : ℕ)
               ∙ sym (gathered_more (a_record m) noted (n - (i + 1)) s bs (high_from s) (high_from (noted s r)) r cs (λ rs. refl) (e ∙ ap (λ v. a_record m v bs) exact))
               ∙ ap (λ k. gathered (high_from s) (many (a_record m) noted k s bs)) left_one
               ∙ inv.rest;
-          long = length_set list i r.command ∙ inv.long;
+          long = length-set list i r.command ∙ inv.long;
         }
 
   pub rest_all : n ≤ i → read high bs ≡ answer

@@ -1,7 +1,7 @@
 -- The fields of a file.
 use Rattle.std.proofs.Common.{◌≡◌, ℕ, ◌+◌, ◌-◌, ◌*◌, ◌≤◌, leb, List, [], ◌∷◌, length, get_or, take, drop, Err, sym, ap, ◌∙◌, arith}
 use Rattle.std.proofs.lemmas.List.{take_rest, take_all}
-use Rattle.std.proofs.lemmas.Bool.{cond_true, le_leb}
+use Rattle.std.proofs.lemmas.Bool.{cond-true, le-leb}
 use Rattle.trace.specs.Reads.{read, a_byte, a_number, a_piece}
 use Rattle.model.specs.declared.refusal.Refusal.TheVariants.{TraceLength}
 
@@ -19,4 +19,4 @@ one_piece n bs h =
     let z : n - 0 ≡ n = omega arith in
     ap (λ m. read (take m bs) (take (length bs - n) (drop n bs))) z
     ∙ ap (read (take n bs)) (take_rest bs n)
-    ∙ sym (cond_true (leb n (length bs)) (read (take n bs) (drop n bs)) (Err TraceLength) (le_leb n (length bs) h))
+    ∙ sym (cond-true (leb n (length bs)) (read (take n bs) (drop n bs)) (Err TraceLength) (le-leb n (length bs) h))

@@ -1,7 +1,7 @@
 -- A lawful trace is read back.
-use Rattle.std.proofs.Common.{◌≡◌, ℕ, ◌+◌, ◌*◌, ◌/◌, ◌%◌, Bool, true, false, not, ◌&&◌, eqb, leb, List, [], ◌∷◌, ◌++◌, length, take, drop, Ok, Err, Result, sym, refl, ap, ◌∙◌, append_assoc, append_nil, arith}
+use Rattle.std.proofs.Common.{◌≡◌, ℕ, ◌+◌, ◌*◌, ◌/◌, ◌%◌, Bool, true, false, not, ◌&&◌, eqb, leb, List, [], ◌∷◌, ◌++◌, length, take, drop, Ok, Err, Result, sym, refl, ap, ◌∙◌, append_assoc, append-nil, arith}
 use Rattle.std.proofs.lemmas.List.{length-append, take_at, drop_at}
-use Rattle.std.proofs.lemmas.Bool.{cond_true, and_parts, le_leb}
+use Rattle.std.proofs.lemmas.Bool.{cond-true, and_parts, le-leb}
 use Rattle.std.specs.List.{flat_map}
 use Rattle.model.specs.Contents.{Content, mem}
 use Rattle.model.specs.Numbers.{kind_number}
@@ -19,7 +19,7 @@ use Rattle.trace.specs.Reads.{Reading, read, then, rule, a_number, at_most, a_co
 use Rattle.trace.specs.Format.{Before, start, noted, higher, push, new_content, content_of_length, a_content, all_contents, kind_told, a_kind, highest, a_file, known_command, new_command, from_third, from_second, from_first, from_kind, a_command, index_ok, use_index, use_file, a_use, count_ok, record_write, record_reads, record_command, a_record, all_records, finished, with_contents, decoded, content_bytes, command_bytes, use_bytes, record_bytes, encoded, content_ok, files_ok, use_ok, is_hint, record_ok, lawful}
 
 passed : {Y : Type 0} (t : Bool) (r : Result Y Refusal) → t ≡ true → rule t r ≡ r
-passed t r e = cond_true t r (Err TraceRule) e
+passed t r e = cond-true t r (Err TraceRule) e
 
 number_same : (n : ℕ) → n / 256 * 256 + n % 256 ≡ n
 number_same n = omega arith
@@ -27,7 +27,7 @@ number_same n = omega arith
 piece_forth : (c cs : List ℕ) → a_piece (length c) (c ++ cs) ≡ read c cs
 piece_forth c cs =
     let l = length-append c cs in
-    cond_true (leb (length c) (length (c ++ cs))) (read (take (length c) (c ++ cs)) (drop (length c) (c ++ cs))) (Err TraceLength) (le_leb _ _ (omega arith))
+    cond-true (leb (length c) (length (c ++ cs))) (read (take (length c) (c ++ cs)) (drop (length c) (c ++ cs))) (Err TraceLength) (le-leb _ _ (omega arith))
     ∙ ap (λ x. read x (drop (length c) (c ++ cs))) (take_at c cs (length c) refl)
     ∙ ap (read c) (drop_at c cs (length c) refl)
 
@@ -128,6 +128,6 @@ read_back t ok =
     ∙ ap (λ q. then (then q all_contents) with_contents) (count_forth 1024 n (flat_map content_bytes cs ++ tail) b.0)
     ∙ ap (λ q. then q with_contents) (many_forth a_content push content_bytes content_ok content_forth [] cs tail b.1)
     ∙ ap (λ q. then (then q (all_records n)) (finished cs)) (count_forth 256 m (flat_map record_bytes rs) f.0)
-    ∙ ap (λ l. then (many (a_record n) noted m start l) (finished cs)) (sym (append_nil (flat_map record_bytes rs)))
+    ∙ ap (λ l. then (many (a_record n) noted m start l) (finished cs)) (sym (append-nil (flat_map record_bytes rs)))
     ∙ ap (λ q. then q (finished cs)) (many_forth (a_record n) noted record_bytes (record_ok n) (record_forth n) start rs [] f.1)
     ∙ passed (eqb (after noted start rs).high n) (Ok t) d.1

@@ -1,6 +1,6 @@
 -- The loop that takes the reads of a record.
-use Rattle.std.proofs.Common.{◌≡◌, ℕ, suc, ◌+◌, ◌-◌, ◌<◌, ◌≤◌, List, [], ◌∷◌, ◌++◌, length, take, set, Err, sym, refl, ap, ◌∙◌, append_nil, arith}
-use Rattle.std.proofs.lemmas.List.{take_more_set, length_set}
+use Rattle.std.proofs.Common.{◌≡◌, ℕ, suc, ◌+◌, ◌-◌, ◌<◌, ◌≤◌, List, [], ◌∷◌, ◌++◌, length, take, set, Err, sym, refl, ap, ◌∙◌, append-nil, arith}
+use Rattle.std.proofs.lemmas.List.{take_more_set, length-set}
 use Rattle.trace.proofs.Chains.{onto, onto_none, onto_more, onto_stop, after_push}
 use Rattle.trace.specs.Reads.{Reading, read, many, after}
 use Rattle.trace.specs.Format.{a_use, higher}
@@ -44,7 +44,7 @@ module _ (answer : Reading (List Use)) (m n h : ℕ) (list : List Use) (top i : 
               ∙ ap (λ k. onto (take i list) (many (a_use m) higher k top bs)) left_one
               ∙ inv.rest;
           high = s ∙ ap (λ k. higher k u) inv.high ∙ sym (after_push higher h (take i list) u) ∙ ap (after higher h) (sym more);
-          long = length_set list i u ∙ inv.long;
+          long = length-set list i u ∙ inv.long;
         }
 
   pub rest_all : n ≤ i → i ≤ n → read (take n list) bs ≡ answer
@@ -52,7 +52,7 @@ module _ (answer : Reading (List Use)) (m n h : ℕ) (list : List Use) (top i : 
       let z : 0 ≡ n - i = omega arith in
       let same : n ≡ i = omega arith in
       ap (λ k. read (take k list) bs) same
-      ∙ ap (λ us. read us bs) (sym (append_nil (take i list)))
+      ∙ ap (λ us. read us bs) (sym (append-nil (take i list)))
       ∙ ap (λ k. onto (take i list) (many (a_use m) higher k top bs)) z
       ∙ inv.rest
 

@@ -1,8 +1,8 @@
 -- The loop that takes the contents, the content of an index, and bytes that are compared.
-use Rattle.std.proofs.Common.{◌≡◌, ℕ, suc, ◌+◌, ◌-◌, ◌<◌, ◌≤◌, true, false, leb, ◌⊎◌, List, [], ◌∷◌, ◌++◌, map, length, get_or, take, set, Some, None, Err, sym, ap, ◌∙◌, inl, inr, append_nil, arith, Bor}
-use Rattle.std.proofs.lemmas.List.{length_map, get_or_map, take_more_set, map_push}
-use Rattle.std.proofs.lemmas.Bool.{cond_true, cond_false, and_from, and_left, and_right, le_leb, lt_leb, cases_eq, cases_Bool}
-use Rattle.std.proofs.lemmas.Slice.Eq.{bytes_eq_Decides}
+use Rattle.std.proofs.Common.{◌≡◌, ℕ, suc, ◌+◌, ◌-◌, ◌<◌, ◌≤◌, true, false, leb, ◌⊎◌, List, [], ◌∷◌, ◌++◌, map, length, get_or, take, set, Some, None, Err, sym, ap, ◌∙◌, inl, inr, append-nil, arith, Bor}
+use Rattle.std.proofs.lemmas.List.{length-map, get_or-map, take_more_set, map_push}
+use Rattle.std.proofs.lemmas.Bool.{cond-true, cond-false, and_from, and_left, and_right, le-leb, lt-leb, cases_eq, cases_Bool}
+use Rattle.std.proofs.lemmas.Slice.Eq.{bytes_eq-Decides}
 use Rattle.std.specs.Str.{bytes_eq}
 use Rattle.trace.proofs.Chains.{onto, onto_none, onto_more, onto_stop}
 use Rattle.trace.specs.Reads.{Reading, read, then, many, a_count}
@@ -52,7 +52,7 @@ rest_all answer n list i bs inv h l =
     let z : 0 ≡ n - i = omega arith in
     let same : n ≡ i = omega arith in
     ap (λ m. read (firsts m list) bs) same
-    ∙ ap (λ cs. read cs bs) (sym (append_nil (firsts i list)))
+    ∙ ap (λ cs. read cs bs) (sym (append-nil (firsts i list)))
     ∙ ap (λ m. onto (firsts i list) (many a_content push m (firsts i list) bs)) z
     ∙ inv
 
@@ -62,18 +62,18 @@ section_begins n bs cs e = ap (λ r. then r all_contents) e
 module _ (list : List Ref) (i : ℕ) where
   pub content_some : (d : Ref) → (i ≡ 0 → ⊥) → i ≤ length list → Some (get_or list (i - 1) d).now ≡ content_at (map (λ x. x.now) list) i
   content_some d ne h =
-      let l = length_map list (λ x. x.now) in
+      let l = length-map list (λ x. x.now) in
       let low : 1 ≤ i = elim (cases_eq i 0) [ inl e ↦ absurd (ne e) | inr n ↦ omega arith ] in
-      ap Some (sym (get_or_map (λ x. x.now) list (i - 1) d [] (omega arith)))
-      ∙ sym (cond_true _ _ _ (and_from (leb 1 i) (leb i (length (map (λ x. x.now) list))) (le_leb _ _ low) (le_leb _ _ (omega arith))))
+      ap Some (sym (get_or-map (λ x. x.now) list (i - 1) d [] (omega arith)))
+      ∙ sym (cond-true _ _ _ (and_from (leb 1 i) (leb i (length (map (λ x. x.now) list))) (le-leb _ _ low) (le-leb _ _ (omega arith))))
 
   pub content_none : (i ≡ 0) ⊎ (length list < i) → None ≡ content_at (map (λ x. x.now) list) i
-  content_none (inl e) = sym (cond_false _ _ _ (and_left (leb 1 i) (leb i (length (map (λ x. x.now) list))) (lt_leb 1 i (omega arith))))
-  content_none (inr h) = let l = length_map list (λ x. x.now) in sym (cond_false _ _ _ (and_right (leb 1 i) (leb i (length (map (λ x. x.now) list))) (lt_leb i _ (omega arith))))
+  content_none (inl e) = sym (cond-false _ _ _ (and_left (leb 1 i) (leb i (length (map (λ x. x.now) list))) (lt-leb 1 i (omega arith))))
+  content_none (inr h) = let l = length-map list (λ x. x.now) in sym (cond-false _ _ _ (and_right (leb 1 i) (leb i (length (map (λ x. x.now) list))) (lt-leb i _ (omega arith))))
 
 pub other_length : (a b : List ℕ) → (length a ≡ length b → ⊥) → false ≡ bytes_eq a b
 other_length a b ne =
     elim (cases_Bool (bytes_eq a b)) [
-      | inl t ↦ absurd (ne (ap length ((bytes_eq_Decides a b).0 t)))
+      | inl t ↦ absurd (ne (ap length ((bytes_eq-Decides a b).0 t)))
       | inr f ↦ sym f
     ]

@@ -1,5 +1,5 @@
 ghost use Rattle.std.specs.Prelude.{◌≡◌};
-ghost use Rattle.trace.specs.Format.{kind_of, highest as highest-of, files_ok};
+ghost use Rattle.trace.specs.Format.{kind_of, highest as highest_of, files_ok};
 
 use model::{Command, Kind};
 
@@ -20,7 +20,7 @@ pub fn kind_of(number: u8) -> Option<Kind>
 
 /// The highest number that the file in a place of a command may have; places count from 1.
 pub fn highest(kind: Kind, place: usize) -> u8
-    ensures { result ≡ highest-of kind place }
+    ensures { result ≡ highest_of kind place }
 {
     if place <= kind.arity() { 63 } else { 0 }
 }

@@ -1,7 +1,7 @@
 -- How many places the records of a lawful trace need: one for each command that the book does not have.
 use Rattle.std.proofs.Common.{◌≡◌, ℕ, ◌+◌, ◌-◌, ◌≤◌, Bool, true, false, cond, not, ◌&&◌, ◌||◌, eqb, leb, List, [], ◌∷◌, ◌++◌, map, length, take, Ok, Err, sym, refl, ap, ◌∙◌, inl, inr, arith}
-use Rattle.std.proofs.lemmas.List.{length_map, length-take}
-use Rattle.std.proofs.lemmas.Bool.{cond_true, cond_false, and_parts, or_parts, or_from, not_true, eqb_true, leb_true, le_leb, lt_leb, cases_lt}
+use Rattle.std.proofs.lemmas.List.{length-map, length-take}
+use Rattle.std.proofs.lemmas.Bool.{cond-true, cond-false, and_parts, or_parts, or_from, not-true, eqb-true, leb-true, le-leb, lt-leb, cases_lt}
 use Rattle.std.specs.List.{AllByRecursion as All}
 use Rattle.model.specs.Contents.{Content, Pool}
 use Rattle.model.specs.Numbers.{kind_number}
@@ -23,11 +23,11 @@ same_same c q r e =
     let d = and_parts _ (eqb q.b r.b) b.0 in
     let f = and_parts (eqb (kind_number q.kind) (kind_number r.kind)) (eqb q.a r.a) d.0 in
     let k = kind_number c.kind in
-    ap (λ n. eqb k n && eqb c.a q.a && eqb c.b q.b && eqb c.c q.c && eqb c.d q.d) (eqb_true (kind_number q.kind) (kind_number r.kind) f.0)
-    ∙ ap (λ n. eqb k (kind_number r.kind) && eqb c.a n && eqb c.b q.b && eqb c.c q.c && eqb c.d q.d) (eqb_true q.a r.a f.1)
-    ∙ ap (λ n. eqb k (kind_number r.kind) && eqb c.a r.a && eqb c.b n && eqb c.c q.c && eqb c.d q.d) (eqb_true q.b r.b d.1)
-    ∙ ap (λ n. eqb k (kind_number r.kind) && eqb c.a r.a && eqb c.b r.b && eqb c.c n && eqb c.d q.d) (eqb_true q.c r.c b.1)
-    ∙ ap (λ n. eqb k (kind_number r.kind) && eqb c.a r.a && eqb c.b r.b && eqb c.c r.c && eqb c.d n) (eqb_true q.d r.d a.1)
+    ap (λ n. eqb k n && eqb c.a q.a && eqb c.b q.b && eqb c.c q.c && eqb c.d q.d) (eqb-true (kind_number q.kind) (kind_number r.kind) f.0)
+    ∙ ap (λ n. eqb k (kind_number r.kind) && eqb c.a n && eqb c.b q.b && eqb c.c q.c && eqb c.d q.d) (eqb-true q.a r.a f.1)
+    ∙ ap (λ n. eqb k (kind_number r.kind) && eqb c.a r.a && eqb c.b n && eqb c.c q.c && eqb c.d q.d) (eqb-true q.b r.b d.1)
+    ∙ ap (λ n. eqb k (kind_number r.kind) && eqb c.a r.a && eqb c.b r.b && eqb c.c n && eqb c.d q.d) (eqb-true q.c r.c b.1)
+    ∙ ap (λ n. eqb k (kind_number r.kind) && eqb c.a r.a && eqb c.b r.b && eqb c.c r.c && eqb c.d n) (eqb-true q.d r.d a.1)
 
 abbrev known : Command → List Record → Bool
 known c rs = known_command c (map (λ r. r.command) rs)
@@ -68,7 +68,7 @@ known_push c d (x ∷ cs) e =
 module _ (n : ℕ) where
   new_command : (s : Before) (r : Record) → record_ok n s r ≡ true → known_command r.command s.commands ≡ false
   new_command s r e =
-      let a = and_parts _ _ e in not_true _ (and_parts (files_ok r.command) (not (known_command r.command s.commands)) a.0).1
+      let a = and_parts _ _ e in not-true _ (and_parts (files_ok r.command) (not (known_command r.command s.commands)) a.0).1
 
   -- later records have other commands than those before
   others_than : (c : Command) (s : Before) (qs : List Record) → ((x : Command) → known_command x s.commands ≡ false → same_command x c ≡ false) → each (record_ok n) noted s qs ≡ true → All (Other c) qs
@@ -98,8 +98,8 @@ fits_is xs p t rs places ok h =
     let c = and_parts (leb (length t.records) 256) records b.0 in
     let l = hints_length (length t.contents) xs p start t.records rs c.1 in
     elim (cases_lt places (length (hints xs p t.records rs))) [
-      | inl lt ↦ lt_leb (fresh rs t.records) (places - length rs) (omega arith) ∙ sym (lt_leb (length (hints xs p t.records rs)) places lt)
-      | inr le ↦ le_leb (fresh rs t.records) (places - length rs) (omega arith) ∙ sym (le_leb (length (hints xs p t.records rs)) places le)
+      | inl lt ↦ lt-leb (fresh rs t.records) (places - length rs) (omega arith) ∙ sym (lt-leb (length (hints xs p t.records rs)) places lt)
+      | inr le ↦ le-leb (fresh rs t.records) (places - length rs) (omega arith) ∙ sym (le-leb (length (hints xs p t.records rs)) places le)
     ]
 
 -- as the calls tell it
@@ -109,7 +109,7 @@ module _ (xs : List Content) (p : Pool) (t : Traced) (list : List Code.Record) (
 
   pub tested : (slice : List Code.Record) (qs : List Record) (free n k : ℕ) (b : Bool) → slice ≡ list → qs ≡ t.records → free ≡ n - k → n ≡ places → k ≡ length list → b ≡ leb (fresh (map said slice) qs) free → b ≡ leb (length all) places
   tested slice qs free n k b e f g u v w =
-      let l = length_map list said in
+      let l = length-map list said in
       let z : free ≡ places - length (map said list) = omega arith in
       w
       ∙ ap (λ l. leb (fresh (map said l) qs) free) e
@@ -118,10 +118,10 @@ module _ (xs : List Content) (p : Pool) (t : Traced) (list : List Code.Record) (
       ∙ fits_is xs p t (map said list) places ok (omega arith)
 
   pub refused_is : false ≡ leb (length all) places → (Err NoRoomToLoad ≡ hints_told all places) × (map said list ≡ hints_after all places (map said list))
-  refused_is e = (sym (cond_false (leb (length all) places) _ _ (sym e)), sym (cond_false (leb (length all) places) _ _ (sym e)))
+  refused_is e = (sym (cond-false (leb (length all) places) _ _ (sym e)), sym (cond-false (leb (length all) places) _ _ (sym e)))
 
   pub taken_is : true ≡ leb (length all) places → (Ok tt ≡ hints_told all places) × (all ≡ hints_after all places (map said list))
-  taken_is e = (sym (cond_true (leb (length all) places) _ _ (sym e)), sym (cond_true (leb (length all) places) _ _ (sym e)))
+  taken_is e = (sym (cond-true (leb (length all) places) _ _ (sym e)), sym (cond-true (leb (length all) places) _ _ (sym e)))
 
   pub same_all : (ys : List Content) (qs : List Record) → ys ≡ xs → qs ≡ t.records → hints ys p qs (map said list) ≡ all
   same_all ys qs e f = ap (λ l. hints l p qs (map said list)) e ∙ ap (λ l. hints xs p l (map said list)) f

@@ -1,7 +1,7 @@
 -- A loop that puts contents: what is left gives the pool, and cutting back gives the pool that was there.
 use Rattle.std.proofs.Common.{◌≡◌, ℕ, ◌+◌, ◌<◌, ◌≤◌, Bool, true, false, cond, eqb, ltb, List, [], ◌∷◌, ◌++◌, map, length, get_or, take, drop, is_ok, is_err, Some, None, Ok, Err, Option, Result, sym, refl, ap, ◌∙◌, subst, arith, Bor}
 use Rattle.std.proofs.lemmas.List.{length_push, take-append-le, take_all, at_drop_more, at_drop_all}
-use Rattle.std.proofs.lemmas.Bool.{cond_true, cond_false, eq_eqb, ne_eqb, ltb_true, ltb-false}
+use Rattle.std.proofs.lemmas.Bool.{cond-true, cond-false, eq-eqb, ne_eqb, ltb-true, ltb-false}
 use Rattle.pool.specs.declared.answers.NoRoom.{NoRoom}
 use Rattle.pool.specs.declared.answers.Put.{Put}
 use Rattle.model.specs.Contents.{Content, Pool, mem, fits, given, put, cut}
@@ -32,13 +32,13 @@ module _ (cs : List Ref) (p q : Pool) (i : ℕ) (inv : Left cs p q i) where
         record {
           rest =
               ap (puts (map (λ x. x.now) (drop (i + 1) cs))) e
-              ∙ sym (cond_false (eqb (given q x) 0) None (puts (map (λ x. x.now) (drop (i + 1) cs)) (put q x)) (ne_eqb (given q x) 0 ne))
+              ∙ sym (cond-false (eqb (given q x) 0) None (puts (map (λ x. x.now) (drop (i + 1) cs)) (put q x)) (ne_eqb (given q x) 0 ne))
               ∙ here;
           grown = subst (Began p) (sym e) (began_put p q x inv.grown);
         }
 
     pub refused : given q x ≡ 0 → puts (map (λ x. x.now) cs) p ≡ None
-    refused e = sym here ∙ cond_true (eqb (given q x) 0) None (puts (map (λ x. x.now) (drop (i + 1) cs)) (put q x)) (eq_eqb (given q x) 0 e)
+    refused e = sym here ∙ cond-true (eqb (given q x) 0) None (puts (map (λ x. x.now) (drop (i + 1) cs)) (put q x)) (eq-eqb (given q x) 0 e)
 
     pub put_back : (n : ℕ) (r s : Pool) → n ≡ length p.contents → r ≡ put q x → s ≡ cut n r → s ≡ p
     put_back n r s e f h = h ∙ ap (λ k. cut k r) e ∙ ap (cut (length p.contents)) f ∙ (began_put p q x inv.grown).cut_is
@@ -52,5 +52,5 @@ given_none (Ok x) n a b = let z : ◌≡◌ {A = ℕ} 0 1 = cc in absurd (omega 
 given_none (Err x) n a b = let h = ltb-false 0 n (sym b) in omega arith
 
 pub given_some : (r : Result Put NoRoom) (n : ℕ) → false ≡ is_err r → is_ok r ≡ ltb 0 n → n ≡ 0 → ⊥
-given_some (Ok x) n a b e = let h = ltb_true 0 n (sym b) in omega arith
+given_some (Ok x) n a b e = let h = ltb-true 0 n (sym b) in omega arith
 given_some (Err x) n a b e = let z : ◌≡◌ {A = ℕ} 0 1 = cc in omega arith

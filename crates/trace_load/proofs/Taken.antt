@@ -1,7 +1,7 @@
 -- Hints that are taken one after the other, and where each goes.
 use Rattle.std.proofs.Common.{◌≡◌, ℕ, zero, suc, ◌+◌, ◌-◌, ◌<◌, ◌≤◌, Bool, true, false, cond, ◌&&◌, ◌||◌, eqb, ltb, leb, List, [], ◌∷◌, ◌++◌, map, length, get_or, take, drop, set, Some, None, Option, sym, refl, ap, ◌∙◌, subst, inl, inr, arith}
-use Rattle.std.proofs.lemmas.List.{at_drop_more, at_drop_all, length_push, length_map}
-use Rattle.std.proofs.lemmas.Bool.{cond_true, cond_false, leb_true, leb-false, le_leb, lt_leb, lt_ltb, cases_Bool, cases_lt}
+use Rattle.std.proofs.lemmas.List.{at_drop_more, at_drop_all, length_push, length-map}
+use Rattle.std.proofs.lemmas.Bool.{cond-true, cond-false, leb-true, leb-false, le-leb, lt-leb, lt-ltb, cases_Bool, cases_lt}
 use Rattle.std.specs.List.{slice_get}
 use Rattle.model.specs.Contents.{Content, Pool}
 use Rattle.model.specs.Records.{Record, said}
@@ -63,7 +63,7 @@ hint_own q (x ∷ xs) old e o = by (same_command q.command x.command) e (hint_ow
     by : (b : Bool) → Some old ≡ slice_get (x ∷ xs) (cond b 0 (suc (spot q.command (map said xs)))) → (Some old ≡ slice_get xs (spot q.command (map said xs)) → own old.standing ≡ true → map said xs ≡ hint (said q) (map said xs)) → map said (x ∷ xs) ≡ cond b (cond (own x.standing) (said x ∷ map said xs) (said q ∷ map said xs)) (said x ∷ hint (said q) (map said xs))
     by true f more =
         let same : old ≡ x = cc in
-        sym (cond_true (own x.standing) (said x ∷ map said xs) (said q ∷ map said xs) (ap (λ r. own r.standing) (sym same) ∙ o))
+        sym (cond-true (own x.standing) (said x ∷ map said xs) (said q ∷ map said xs) (ap (λ r. own r.standing) (sym same) ∙ o))
     by false f more = ap (λ l. said x ∷ l) (more f o)
 
 -- another of its command gives place to it
@@ -74,7 +74,7 @@ hint_set q (x ∷ xs) old e o = by (same_command q.command x.command) e (hint_se
     by : (b : Bool) → Some old ≡ slice_get (x ∷ xs) (cond b 0 (suc (spot q.command (map said xs)))) → (Some old ≡ slice_get xs (spot q.command (map said xs)) → own old.standing ≡ false → map said (set xs (spot q.command (map said xs)) q) ≡ hint (said q) (map said xs)) → map said (set (x ∷ xs) (cond b 0 (suc (spot q.command (map said xs)))) q) ≡ cond b (cond (own x.standing) (said x ∷ map said xs) (said q ∷ map said xs)) (said x ∷ hint (said q) (map said xs))
     by true f more =
         let same : old ≡ x = cc in
-        sym (cond_false (own x.standing) (said x ∷ map said xs) (said q ∷ map said xs) (ap (λ r. own r.standing) (sym same) ∙ o))
+        sym (cond-false (own x.standing) (said x ∷ map said xs) (said q ∷ map said xs) (ap (λ r. own r.standing) (sym same) ∙ o))
     by false f more = ap (λ l. said x ∷ l) (more f o)
 
 -- without one of its command it is appended
@@ -115,14 +115,14 @@ module _ (q : Code.Record) (xs : List Code.Record) (at : ℕ) (e : at ≡ spot q
 
   pub replaced : (old : Code.Record) (r : Bool) (ys : List Code.Record) → Some old ≡ slice_get xs at → false ≡ own old.standing → r ≡ ltb at (length xs) → ys ≡ cond r (set xs at q) xs → map said ys ≡ hint (said q) (map said xs)
   replaced old r ys f o g h =
-      let fits = g ∙ lt_ltb at (length xs) (nth_within xs at old f) in
-      ap (map said) (h ∙ cond_true r (set xs at q) xs fits ∙ ap (λ i. set xs i q) e) ∙ hint_set q xs old (f ∙ ap (slice_get xs) e) (sym o)
+      let fits = g ∙ lt-ltb at (length xs) (nth_within xs at old f) in
+      ap (map said) (h ∙ cond-true r (set xs at q) xs fits ∙ ap (λ i. set xs i q) e) ∙ hint_set q xs old (f ∙ ap (slice_get xs) e) (sym o)
 
   pub appended : (places : ℕ) (r : Bool) (ys : List Code.Record) → length (hint (said q) (map said xs)) ≤ places → None ≡ slice_get xs at → r ≡ ltb (length xs) places → ys ≡ cond r (xs ++ q ∷ []) xs → map said ys ≡ hint (said q) (map said xs)
   appended places r ys l f g h =
       let new = hint_push q xs (f ∙ ap (slice_get xs) e) in
       let a = ap length new in
-      let b = length_map (xs ++ q ∷ []) said in
+      let b = length-map (xs ++ q ∷ []) said in
       let d = length_push xs q in
-      let fits = g ∙ lt_ltb (length xs) places (omega arith) in
-      ap (map said) (h ∙ cond_true r (xs ++ q ∷ []) xs fits) ∙ new
+      let fits = g ∙ lt-ltb (length xs) places (omega arith) in
+      ap (map said) (h ∙ cond-true r (xs ++ q ∷ []) xs fits) ∙ new

@@ -1,8 +1,8 @@
 ghost use Rattle.std.specs.Prelude.{◌≡◌, ◌-◌, ◌≤◌, true, [], map, length, take, if◌then◌else◌, nat_le, slice_index_or};
 ghost use Rattle.lists.specs.Held.{held, room};
 ghost use Rattle.model.specs.Records.{said};
-ghost use Rattle.model.specs.Book.{own, hint as hint-in};
-ghost use Rattle.model.specs.Load.{numbered, hinted, hints as hints-in};
+ghost use Rattle.model.specs.Book.{own, hint as hint_in};
+ghost use Rattle.model.specs.Load.{numbered, hinted, hints as hints_in};
 ghost use Rattle.pool.specs.Contents.{meant};
 ghost use Rattle.trace.specs.Format.{lawful, known_command};
 ghost use Rattle.trace.specs.Told.{meant as traced, coming};
@@ -88,8 +88,8 @@ fn place_of(list: &[Record], command: Command) -> usize
 
 /// Takes one hint into a book that has a place for it.
 fn take_hint(book: &mut Lent<Record>, rec: Record)
-    requires { length (hint-in (said rec) (map said (held book.old))) ≤ room book.old }
-    ensures held { map said (held book.new) ≡ hint-in (said rec) (map said (held book.old)) }
+    requires { length (hint_in (said rec) (map said (held book.old))) ≤ room book.old }
+    ensures held { map said (held book.new) ≡ hint_in (said rec) (map said (held book.old)) }
     ensures room { room book.new ≡ room book.old }
 {
     let at = place_of(book.as_slice(), rec.command);
@@ -105,8 +105,8 @@ fn take_hint(book: &mut Lent<Record>, rec: Record)
 
 /// Takes records as hints into a book that has the places for them.
 fn take_all(book: &mut Lent<Record>, pool: &Pool, contents: &[&[u8]], mut records: Records)
-    requires { length (hints-in (map (λ x. x.now) contents.now) (meant pool.now) (coming records) (map said (held book.old))) ≤ room book.old }
-    ensures held { map said (held book.new) ≡ hints-in (map (λ x. x.now) contents.now) (meant pool.now) (coming records.entry) (map said (held book.old)) }
+    requires { length (hints_in (map (λ x. x.now) contents.now) (meant pool.now) (coming records) (map said (held book.old))) ≤ room book.old }
+    ensures held { map said (held book.new) ≡ hints_in (map (λ x. x.now) contents.now) (meant pool.now) (coming records.entry) (map said (held book.old)) }
     ensures room { room book.new ≡ room book.old }
 {
     while let Some(rec) = records.next() {
@@ -139,8 +139,8 @@ fn has_places(list: &[Record], places: usize, mut records: Records) -> bool
 /// Takes the records of a lawful trace, if there are places for them.
 fn take_lawful(book: &mut Lent<Record>, pool: &Pool, trace: &Trace) -> Result<(), Refusal>
     requires { lawful (traced trace.now) ≡ true }
-    ensures value { result ≡ hints_told (hints-in (traced trace.now).contents (meant pool.now) (traced trace.now).records (map said (held book.old))) (room book.old) }
-    ensures held { map said (held book.new) ≡ hints_after (hints-in (traced trace.now).contents (meant pool.now) (traced trace.now).records (map said (held book.old))) (room book.old) (map said (held book.old)) }
+    ensures value { result ≡ hints_told (hints_in (traced trace.now).contents (meant pool.now) (traced trace.now).records (map said (held book.old))) (room book.old) }
+    ensures held { map said (held book.new) ≡ hints_after (hints_in (traced trace.now).contents (meant pool.now) (traced trace.now).records (map said (held book.old))) (room book.old) (map said (held book.old)) }
     ensures room { room book.new ≡ room book.old }
 {
     let free = book.room().saturating_sub(book.len());
@@ -156,8 +156,8 @@ fn take_lawful(book: &mut Lent<Record>, pool: &Pool, trace: &Trace) -> Result<()
 /// book has too few places it is as it was.
 pub fn take_hints(book: &mut Lent<Record>, pool: &Pool, trace: &Trace) -> Result<(), Refusal>
     requires { lawful (traced trace.now) ≡ true }
-    ensures value { result ≡ hints_told (hints-in (traced trace.now).contents (meant pool.now) (traced trace.now).records (map said (held book.old))) (room book.old) }
-    ensures held { map said (held book.new) ≡ hints_after (hints-in (traced trace.now).contents (meant pool.now) (traced trace.now).records (map said (held book.old))) (room book.old) (map said (held book.old)) }
+    ensures value { result ≡ hints_told (hints_in (traced trace.now).contents (meant pool.now) (traced trace.now).records (map said (held book.old))) (room book.old) }
+    ensures held { map said (held book.new) ≡ hints_after (hints_in (traced trace.now).contents (meant pool.now) (traced trace.now).records (map said (held book.old))) (room book.old) (map said (held book.old)) }
     ensures room { room book.new ≡ room book.old }
 {
     take_lawful(book, pool, trace)

@@ -1,7 +1,7 @@
 -- The records of what is saved, taken into an empty pool and book, say in bytes what the chosen records say.
 use Rattle.std.proofs.Common.{◌≡◌, ℕ, suc, ◌-◌, ◌≤◌, true, List, [], ◌∷◌, map, length, get_or, sym, refl, ap, ◌∙◌, subst, inl, inr, arith}
-use Rattle.std.proofs.lemmas.List.{length_map}
-use Rattle.std.proofs.lemmas.Bool.{and_parts, and_from, le_leb, cases_eq}
+use Rattle.std.proofs.lemmas.List.{length-map}
+use Rattle.std.proofs.lemmas.Bool.{and_parts, and_from, le-leb, cases_eq}
 use Rattle.std.specs.List.{AllByRecursion as All}
 use Rattle.model.specs.Contents.{Content, Pool, holds, content}
 use Rattle.model.specs.Records.{Record}
@@ -46,10 +46,10 @@ module _ (p q : Pool) (ns : List ℕ) (same : q.contents ≡ map (content p) ns)
   use_same : (h : ℕ) (u : Use) → use_ok n h (indexed_use ns u) ≡ true → seen q (indexed_use ns u) ≡ seen p u
   use_same h u e =
       let k = place u.number ns in
-      let there : k ≤ length ns = omega (arith, (use_lawful n h (indexed_use ns u) e).high, length_map ns (content p)) in
+      let there : k ≤ length ns = omega (arith, (use_lawful n h (indexed_use ns u) e).high, length-map ns (content p)) in
       let was = all_at (In p) u.number ns all there in
-      let in_q : holds q k ≡ true = and_from _ _ (le_leb 1 k (place_low u.number ns)) (le_leb _ _ (omega (arith, ap length same, length_map ns (content p)))) in
-      let in_p : holds p u.number ≡ true = and_from _ _ (le_leb _ _ was.0) (le_leb _ _ was.1) in
+      let in_q : holds q k ≡ true = and_from _ _ (le-leb 1 k (place_low u.number ns)) (le-leb _ _ (omega (arith, ap length same, length-map ns (content p)))) in
+      let in_p : holds p u.number ≡ true = and_from _ _ (le-leb _ _ was.0) (le-leb _ _ was.1) in
       let bytes : content q k ≡ content p u.number = ap (λ xs. get_or xs (k - 1) []) same ∙ place_at (content p) u.number ns there in
       rw (in_q, in_p, bytes)
 

@@ -1,7 +1,7 @@
 -- The loop that chooses the records.
 use Rattle.std.proofs.Common.{◌≡◌, ℕ, ◌+◌, ◌-◌, ◌<◌, ◌≤◌, Bool, true, false, cond, not, ◌&&◌, ltb, List, [], ◌∷◌, ◌++◌, map, length, get_or, take, drop, set, sym, refl, ap, ◌∙◌, subst, arith}
-use Rattle.std.proofs.lemmas.List.{length_set, length_map, length-take-le, take_more_set, map_push, at_drop_more, at_drop_all}
-use Rattle.std.proofs.lemmas.Bool.{and_parts, and_from, and_left, and_right, ltb_true}
+use Rattle.std.proofs.lemmas.List.{length-set, length-map, length-take-le, take_more_set, map_push, at_drop_more, at_drop_all}
+use Rattle.std.proofs.lemmas.Bool.{and_parts, and_from, and_left, and_right, ltb-true}
 use Rattle.model.specs.Contents.{Pool}
 use Rattle.model.specs.Records.{Record, said}
 use Rattle.model.specs.declared.command.Kind.TheVariants.{Copy}
@@ -59,11 +59,11 @@ module _ (p : Pool) (rs : List Code.Record) where
     rest_room r e =
         let a = and_parts (savable p r) (is_new (front (count - 0) list) r) (sym e) in
         let b = and_parts (not (known_command r.command (map (λ s. s.command) (front (count - 0) list)))) (ltb (length (front (count - 0) list)) 256) a.1 in
-        let c = ltb_true (length (front (count - 0) list)) 256 b.1 in
+        let c = ltb-true (length (front (count - 0) list)) 256 b.1 in
         let l = inv.long in
         let f = inv.few in
         let z : count - 0 ≡ count = omega arith in
-        let n = length_map (take (count - 0) list) said ∙ length-take-le (count - 0) list (omega arith) in
+        let n = length-map (take (count - 0) list) said ∙ length-take-le (count - 0) list (omega arith) in
         omega arith
 
     pub rest_take : (d : Code.Record) → i < length rs → true ≡ taken p (front (count - 0) list) (said (get_or rs i d)) → Rest p rs (set list count (get_or rs i d)) (i + 1) (count + 1)
@@ -76,7 +76,7 @@ module _ (p : Pool) (rs : List Code.Record) where
               ap (λ ss. after (choice p) ss (map said (drop (i + 1) rs)))
               (ap (map said) (take_more_set list count r (omega arith)) ∙ map_push said (take count list) r)
               ∙ step d lt true e;
-          long = length_set list count r ∙ l;
+          long = length-set list count r ∙ l;
           few = omega arith;
         }
 

@@ -1,7 +1,7 @@
 -- The places in the order of first use are indices as a file wants them.
-use Rattle.std.proofs.Common.{◌≡◌, ℕ, suc, ◌+◌, ◌<◌, ◌≤◌, max, Bool, true, false, cond, not, ◌&&◌, eqb, leb, List, [], ◌∷◌, ◌++◌, map, length, sym, refl, ap, ◌∙◌, subst, inl, inr, append_assoc, append_nil, arith}
-use Rattle.std.proofs.lemmas.List.{length-append, length_push, length_map}
-use Rattle.std.proofs.lemmas.Bool.{and_parts, and_from, le_leb, leb_true, leb-false, cases_eq, cases_Bool, cond_true, cond_false}
+use Rattle.std.proofs.Common.{◌≡◌, ℕ, suc, ◌+◌, ◌<◌, ◌≤◌, max, Bool, true, false, cond, not, ◌&&◌, eqb, leb, List, [], ◌∷◌, ◌++◌, map, length, sym, refl, ap, ◌∙◌, subst, inl, inr, append_assoc, append-nil, arith}
+use Rattle.std.proofs.lemmas.List.{length-append, length_push, length-map}
+use Rattle.std.proofs.lemmas.Bool.{and_parts, and_from, le-leb, leb-true, leb-false, cases_eq, cases_Bool, cond-true, cond-false}
 use Rattle.std.specs.List.{flat_map}
 use Rattle.model.specs.Contents.{Pool, holds}
 use Rattle.model.specs.Records.{Record}
@@ -24,11 +24,11 @@ longer_one : (o : List ℕ) (n : ℕ) → Longer (listed o n) o
 longer_one o n = by (leb (place n o) (length o))
   where
     by : (t : Bool) → Longer (cond t o (o ++ n ∷ [])) o
-    by true = record { more = []; same = sym (append_nil o) }
+    by true = record { more = []; same = sym (append-nil o) }
     by false = record { more = n ∷ []; same = refl }
 
 pub longer : (o ms : List ℕ) → Longer (after listed o ms) o
-longer o [] = record { more = []; same = sym (append_nil o) }
+longer o [] = record { more = []; same = sym (append-nil o) }
 longer o (m ∷ ms) =
     let a = longer_one o m in
     let b = longer (listed o m) ms in
@@ -59,7 +59,7 @@ module _ (ns : List ℕ) where
 
   index_from : (o : List ℕ) (n : ℕ) → 1 ≤ place n ns → place n ns ≤ length ns → place n ns ≤ length o + 1 → max (length o) (place n ns) ≡ length (listed o n) → Index o n
   index_from o n a b c e =
-      record { ok = and_from (leb 1 (place n ns) && leb (place n ns) (length ns)) _ (and_from (leb 1 (place n ns)) _ (le_leb _ _ a) (le_leb _ _ b)) (le_leb _ _ c); high = e }
+      record { ok = and_from (leb 1 (place n ns) && leb (place n ns) (length ns)) _ (and_from (leb 1 (place n ns)) _ (le-leb _ _ a) (le-leb _ _ b)) (le-leb _ _ c); high = e }
 
   pub one_index : (o : List ℕ) (n : ℕ) (ms : List ℕ) → ns ≡ after listed (listed o n) ms → Index o n
   one_index o n ms e =
@@ -67,15 +67,15 @@ module _ (ns : List ℕ) where
       let low = place_low n ns in
       elim (cases_Bool (leb (place n o) (length o))) [
         | inl t ↦
-            (let there = leb_true (place n o) (length o) t in
-            let old : listed o n ≡ o = cond_true (leb (place n o) (length o)) o (o ++ n ∷ []) t in
+            (let there = leb-true (place n o) (length o) t in
+            let old : listed o n ≡ o = cond-true (leb (place n o) (length o)) o (o ++ n ∷ []) t in
             let whole : ns ≡ o ++ l.more = e ∙ l.same ∙ ap (λ x. x ++ l.more) old in
             let at : place n ns ≡ place n o = ap (place n) whole ∙ place_front n o l.more there in
             let size = ap length whole ∙ length-append o l.more in
             index_from o n low (omega arith) (omega arith) (omega (arith, ap length old)))
         | inr f ↦
             (let past = leb-false (place n o) (length o) f in
-            let new : listed o n ≡ o ++ n ∷ [] = cond_false (leb (place n o) (length o)) o (o ++ n ∷ []) f in
+            let new : listed o n ≡ o ++ n ∷ [] = cond-false (leb (place n o) (length o)) o (o ++ n ∷ []) f in
             let whole : ns ≡ o ++ n ∷ l.more = e ∙ l.same ∙ ap (λ x. x ++ l.more) new ∙ append_assoc o (n ∷ []) l.more in
             let at : place n ns ≡ length o + 1 = ap (place n) whole ∙ place_end n o l.more past in
             let size = ap length whole ∙ length-append o (n ∷ l.more) in
@@ -113,7 +113,7 @@ module _ (ns : List ℕ) where
         let high = after higher (length o) (map (indexed_use ns) r.reads) in
         let w = ap (λ h. use_ok (length ns) h (indexed_use ns r.write)) us.1 ∙ use_index r.write o1 ms s.write last in (
           and_from _ _ (and_from _ _ s.files a.1)
-              (and_from _ _ (ap count_ok (length_map r.reads (indexed_use ns)) ∙ s.count) (and_from _ _ (and_from _ _ us.0 w) refl)),
+              (and_from _ _ (ap count_ok (length-map r.reads (indexed_use ns)) ∙ s.count) (and_from _ _ (and_from _ _ us.0 w) refl)),
           ap (λ h. max h (place n ns)) us.1 ∙ (one_index o1 n ms last).high ∙ ap length (sym (after_append listed o reads (n ∷ []))),
         )
 

@@ -1,9 +1,9 @@
 -- What is saved is a trace that a file can hold: it is read back.
 use Rattle.std.proofs.Common.{◌≡◌, ℕ, ◌-◌, ◌≤◌, Bool, true, false, cond, leb, List, [], ◌∷◌, ◌++◌, map, length, Ok, sym, refl, ap, ◌∙◌, subst, inl, inr, append_assoc, arith}
-use Rattle.std.proofs.ByRecursion.{AllPush, AllWeaker}
-use Rattle.std.proofs.lemmas.Slice.Eq.{bytes_eq_Decides}
-use Rattle.std.proofs.lemmas.List.{length_map, map_push}
-use Rattle.std.proofs.lemmas.Bool.{and_from, or_from, not_from_false, le_leb, leb-false, eq_eqb, cases_Bool, cases_order}
+use Rattle.std.proofs.ByRecursion.{All-push, All-weaker}
+use Rattle.std.proofs.lemmas.Slice.Eq.{bytes_eq-Decides}
+use Rattle.std.proofs.lemmas.List.{length-map, map_push}
+use Rattle.std.proofs.lemmas.Bool.{and_from, or_from, not_from_false, le-leb, leb-false, eq-eqb, cases_Bool, cases_order}
 use Rattle.std.specs.List.{flat_map, AllByRecursion as All}
 use Rattle.std.specs.Str.{bytes_eq}
 use Rattle.model.specs.Contents.{Pool, count, content, mem}
@@ -26,7 +26,7 @@ module _ (P : ℕ → Type 0) where
     where
       by : (t : Bool) → leb (place n o) (length o) ≡ t → All P (cond t o (o ++ n ∷ [])) × Apart (cond t o (o ++ n ∷ []))
       by true e = (a, b)
-      by false e = (AllPush P o n a c, apart_push o n b (not_there n o (leb-false (place n o) (length o) e)))
+      by false e = (All-push P o n a c, apart_push o n b (not_there n o (leb-false (place n o) (length o) e)))
 
   pub all_once : (o ms : List ℕ) → All P o → Apart o → All P ms → All P (after listed o ms) × Apart (after listed o ms)
   all_once o [] a b c = (a, b)
@@ -47,7 +47,7 @@ module _ (p : Pool) (sound : Sound p) where
   differ n m a b ne =
       elim (cases_Bool (bytes_eq (content p n) (content p m))) [
         | inl t ↦
-            (let same = (bytes_eq_Decides (content p n) (content p m)).0 t in
+            (let same = (bytes_eq-Decides (content p n) (content p m)).0 t in
             elim (cases_order n m) [
               | inl e ↦ absurd (ne (sym e))
               | inr (inl h) ↦ absurd (sound.apart (n - 1) (m - 1) (omega (arith, a.0)) (omega (arith, b.0, b.1)) same)
@@ -63,9 +63,9 @@ module _ (p : Pool) (sound : Sound p) where
   contents_ok : (ms ns : List ℕ) → All (In p) ms → All (In p) ns → Apart (ms ++ ns) → each content_ok push (map (content p) ms) (map (content p) ns) ≡ true
   contents_ok ms [] a b c = refl
   contents_ok ms (n ∷ ns) a b c =
-      let short = le_leb (length (content p n)) 4096 (sound.short (n - 1) (omega (arith, b.0.0, b.0.1))) in
+      let short = le-leb (length (content p n)) 4096 (sound.short (n - 1) (omega (arith, b.0.0, b.0.1))) in
       let new = not_from_false _ (fresh n ms b.0 a (apart_middle ms n ns c)) in
-      let more = contents_ok (ms ++ n ∷ []) ns (AllPush (In p) ms n a b.0) b.1 (subst Apart (sym (append_assoc ms (n ∷ []) ns)) c) in
+      let more = contents_ok (ms ++ n ∷ []) ns (All-push (In p) ms n a b.0) b.1 (subst Apart (sym (append_assoc ms (n ∷ []) ns)) c) in
       and_from (content_ok (map (content p) ms) (content p n)) _ (and_from (leb (length (content p n)) 4096) _ short new)
       (ap (λ es. each content_ok push es (map (content p) ns)) (sym (map_push (content p) ms n)) ∙ more)
 
@@ -87,22 +87,22 @@ module _ (p : Pool) (sound : Sound p) where
     pub few_numbers : length ns ≤ 1024
     few_numbers =
         let a = listed_are in
-        let few = no_more (count p) ns (AllWeaker (In p) (λ n. 1 ≤ n) (λ n h. h.0) ns a.0) (AllWeaker (In p) (λ n. n ≤ count p) (λ n h. h.1) ns a.0) a.1 in
+        let few = no_more (count p) ns (All-weaker (In p) (λ n. 1 ≤ n) (λ n h. h.0) ns a.0) (All-weaker (In p) (λ n. n ≤ count p) (λ n h. h.1) ns a.0) a.1 in
         omega (arith, sound.count, sound.places)
 
     pub saved_lawful : lawful (to_save p rs) ≡ true
     saved_lawful =
         let a = listed_are in
-        let n = length_map ns (content p) in
-        let m = length_map ss (indexed ns) in
+        let n = length-map ns (content p) in
+        let m = length-map ss (indexed ns) in
         let r = all_records ns p [] [] ss chosen_are.0 refl in
         let c = chosen_are.1 in
         let d = few_numbers in
-        and_from _ _ (and_from _ _ (le_leb (length (map (content p) ns)) 1024 (omega arith)) (contents_ok [] ns tt a.0 a.1))
+        and_from _ _ (and_from _ _ (le-leb (length (map (content p) ns)) 1024 (omega arith)) (contents_ok [] ns tt a.0 a.1))
         (and_from _ _
-        (and_from _ _ (le_leb (length (map (indexed ns) ss)) 256 (omega arith))
+        (and_from _ _ (le-leb (length (map (indexed ns) ss)) 256 (omega arith))
         (ap (λ k. each (record_ok k) noted start (map (indexed ns) ss)) n ∙ r.0))
-        (eq_eqb _ _ (r.1 ∙ sym n)))
+        (eq-eqb _ _ (r.1 ∙ sym n)))
 
     pub saved_back : decoded (encoded (to_save p rs)) ≡ Ok (to_save p rs)
     saved_back = read_back (to_save p rs) saved_lawful

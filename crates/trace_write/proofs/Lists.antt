@@ -1,8 +1,8 @@
 -- Places of numbers in a list, numbers that are listed once, and how many there can be.
 use Rattle.std.proofs.Common.{◌≡◌, ℕ, zero, suc, ◌+◌, ◌<◌, ◌≤◌, Bool, true, false, cond, eqb, leb, List, [], ◌∷◌, ◌++◌, length, get_or, take, drop, set, sym, refl, ap, ◌∙◌, subst, inl, inr, arith}
-use Rattle.std.proofs.ByRecursion.{AllPush}
+use Rattle.std.proofs.ByRecursion.{All-push}
 use Rattle.std.proofs.lemmas.List.{length-append, length_push, at_drop_more, at_drop_all}
-use Rattle.std.proofs.lemmas.Bool.{cond_true, cond_false, eq_eqb, ne_eqb, le_leb, lt_leb, cases_eq, cases_lt}
+use Rattle.std.proofs.lemmas.Bool.{cond-true, cond-false, eq-eqb, ne_eqb, le-leb, lt-leb, cases_eq, cases_lt}
 use Rattle.std.specs.List.{AllByRecursion as All}
 use Rattle.trace_write.specs.Rooms.{Number, Apart}
 use Rattle.trace_write.specs.Saves.{place, listed}
@@ -10,10 +10,10 @@ use Rattle.trace_write.specs.Saves.{place, listed}
 -- PLACES
 
 pub place_same : (n m : ℕ) (ms : List ℕ) → n ≡ m → place n (m ∷ ms) ≡ 1
-place_same n m ms e = cond_true (eqb n m) 1 (suc (place n ms)) (eq_eqb n m e)
+place_same n m ms e = cond-true (eqb n m) 1 (suc (place n ms)) (eq-eqb n m e)
 
 pub place_other : (n m : ℕ) (ms : List ℕ) → (n ≡ m → ⊥) → place n (m ∷ ms) ≡ suc (place n ms)
-place_other n m ms ne = cond_false (eqb n m) 1 (suc (place n ms)) (ne_eqb n m ne)
+place_other n m ms ne = cond-false (eqb n m) 1 (suc (place n ms)) (ne_eqb n m ne)
 
 pub place_low : (n : ℕ) (ms : List ℕ) → 1 ≤ place n ms
 place_low n [] = omega arith
@@ -52,7 +52,7 @@ not_there n (m ∷ ms) h =
 
 pub apart_push : (ns : List ℕ) (n : ℕ) → Apart ns → All (λ m. m ≡ n → ⊥) ns → Apart (ns ++ n ∷ [])
 apart_push [] n a b = (tt, tt)
-apart_push (m ∷ ns) n a b = (AllPush (λ k. m ≡ k → ⊥) ns n a.0 b.0, apart_push ns n a.1 b.1)
+apart_push (m ∷ ns) n a b = (All-push (λ k. m ≡ k → ⊥) ns n a.0 b.0, apart_push ns n a.1 b.1)
 
 -- how many are at most k, and how often k stands there
 up_to : ℕ → List ℕ → ℕ
@@ -66,15 +66,15 @@ times k (n ∷ ns) = cond (eqb n k) 1 0 + times k ns
 never : (k : ℕ) (ns : List ℕ) → All (λ m. k ≡ m → ⊥) ns → times k ns ≡ 0
 unfolding times
 never k [] a = refl
-never k (n ∷ ns) a = omega (arith, cond_false {A = ℕ} (eqb n k) 1 0 (ne_eqb n k (λ e. a.0 (sym e))), never k ns a.1)
+never k (n ∷ ns) a = omega (arith, cond-false {A = ℕ} (eqb n k) 1 0 (ne_eqb n k (λ e. a.0 (sym e))), never k ns a.1)
 
 once : (k : ℕ) (ns : List ℕ) → Apart ns → times k ns ≤ 1
 unfolding times
 once k [] a = omega arith
 once k (n ∷ ns) a =
     elim (cases_eq n k) [
-      | inl e ↦ omega (arith, cond_true {A = ℕ} (eqb n k) 1 0 (eq_eqb n k e), never k ns (subst (λ j. All (λ m. j ≡ m → ⊥) ns) e a.0))
-      | inr ne ↦ omega (arith, cond_false {A = ℕ} (eqb n k) 1 0 (ne_eqb n k ne), once k ns a.1)
+      | inl e ↦ omega (arith, cond-true {A = ℕ} (eqb n k) 1 0 (eq-eqb n k e), never k ns (subst (λ j. All (λ m. j ≡ m → ⊥) ns) e a.0))
+      | inr ne ↦ omega (arith, cond-false {A = ℕ} (eqb n k) 1 0 (ne_eqb n k ne), once k ns a.1)
     ]
 
 one_more : (k : ℕ) (ns : List ℕ) → up_to (suc k) ns ≡ up_to k ns + times (suc k) ns
@@ -85,16 +85,16 @@ one_more k (n ∷ ns) =
     elim (cases_lt k n) [
       | inl h ↦
           elim (cases_eq n (suc k)) [
-            | inl e ↦ omega (arith, cond_true {A = ℕ} (leb n (suc k)) 1 0 (le_leb n (suc k) (omega arith)), cond_false {A = ℕ} (leb n k) 1 0 (lt_leb n k h), cond_true {A = ℕ} (eqb n (suc k)) 1 0 (eq_eqb n (suc k) e))
-            | inr ne ↦ omega (arith, cond_false {A = ℕ} (leb n (suc k)) 1 0 (lt_leb n (suc k) (omega arith)), cond_false {A = ℕ} (leb n k) 1 0 (lt_leb n k h), cond_false {A = ℕ} (eqb n (suc k)) 1 0 (ne_eqb n (suc k) ne))
+            | inl e ↦ omega (arith, cond-true {A = ℕ} (leb n (suc k)) 1 0 (le-leb n (suc k) (omega arith)), cond-false {A = ℕ} (leb n k) 1 0 (lt-leb n k h), cond-true {A = ℕ} (eqb n (suc k)) 1 0 (eq-eqb n (suc k) e))
+            | inr ne ↦ omega (arith, cond-false {A = ℕ} (leb n (suc k)) 1 0 (lt-leb n (suc k) (omega arith)), cond-false {A = ℕ} (leb n k) 1 0 (lt-leb n k h), cond-false {A = ℕ} (eqb n (suc k)) 1 0 (ne_eqb n (suc k) ne))
           ]
-      | inr h ↦ omega (arith, cond_true {A = ℕ} (leb n (suc k)) 1 0 (le_leb n (suc k) (omega arith)), cond_true {A = ℕ} (leb n k) 1 0 (le_leb n k h), cond_false {A = ℕ} (eqb n (suc k)) 1 0 (ne_eqb n (suc k) (λ e. omega arith)))
+      | inr h ↦ omega (arith, cond-true {A = ℕ} (leb n (suc k)) 1 0 (le-leb n (suc k) (omega arith)), cond-true {A = ℕ} (leb n k) 1 0 (le-leb n k h), cond-false {A = ℕ} (eqb n (suc k)) 1 0 (ne_eqb n (suc k) (λ e. omega arith)))
     ]
 
 none_at_zero : (ns : List ℕ) → All (λ n. 1 ≤ n) ns → up_to 0 ns ≡ 0
 unfolding up_to
 none_at_zero [] a = refl
-none_at_zero (n ∷ ns) a = omega (arith, cond_false {A = ℕ} (leb n 0) 1 0 (lt_leb n 0 (omega (arith, a.0))), none_at_zero ns a.1)
+none_at_zero (n ∷ ns) a = omega (arith, cond-false {A = ℕ} (leb n 0) 1 0 (lt-leb n 0 (omega (arith, a.0))), none_at_zero ns a.1)
 
 at_most : (k : ℕ) (ns : List ℕ) → All (λ n. 1 ≤ n) ns → Apart ns → up_to k ns ≤ k
 at_most zero ns a b = omega (arith, none_at_zero ns a)
@@ -103,7 +103,7 @@ at_most (suc k) ns a b = omega (arith, one_more k ns, once (suc k) ns b, at_most
 all_up_to : (k : ℕ) (ns : List ℕ) → All (λ n. n ≤ k) ns → up_to k ns ≡ length ns
 unfolding up_to
 all_up_to k [] a = refl
-all_up_to k (n ∷ ns) a = omega (arith, cond_true {A = ℕ} (leb n k) 1 0 (le_leb n k a.0), all_up_to k ns a.1)
+all_up_to k (n ∷ ns) a = omega (arith, cond-true {A = ℕ} (leb n k) 1 0 (le-leb n k a.0), all_up_to k ns a.1)
 
 -- so there are no more of them than the highest can be
 pub no_more : (k : ℕ) (ns : List ℕ) → All (λ n. 1 ≤ n) ns → All (λ n. n ≤ k) ns → Apart ns → length ns ≤ k

@@ -1,8 +1,8 @@
 -- The loops that list numbers in order of first use.
 use Rattle.std.proofs.Common.{◌≡◌, ℕ, ◌+◌, ◌-◌, ◌<◌, ◌≤◌, leb, List, [], ◌∷◌, ◌++◌, map, length, get_or, take, drop, set, sym, refl, ap, ◌∙◌, subst, arith}
-use Rattle.std.proofs.ByRecursion.{AllPush, AllWeaker}
-use Rattle.std.proofs.lemmas.List.{length_set, length_push, length-take-le, take_more_set}
-use Rattle.std.proofs.lemmas.Bool.{cond_false, lt_leb}
+use Rattle.std.proofs.ByRecursion.{All-push, All-weaker}
+use Rattle.std.proofs.lemmas.List.{length-set, length_push, length-take-le, take_more_set}
+use Rattle.std.proofs.lemmas.Bool.{cond-false, lt-leb}
 use Rattle.std.specs.List.{AllByRecursion as All}
 use Rattle.trace.specs.Reads.{after}
 use Rattle.trace_write.proofs.Lists.{not_there, apart_push, no_more}
@@ -28,7 +28,7 @@ module _ (o : Order) (room : Room o) (n : ℕ) (number : Number n) (at : ℕ) (e
       omega (arith, length_listed o room, e ∙ ap (λ k. place n (take k o.list)) z)
 
   numbers : All Number (ns ++ n ∷ [])
-  numbers = AllPush Number ns n room.numbers number
+  numbers = All-push Number ns n room.numbers number
 
   apart : Apart (ns ++ n ∷ [])
   apart = apart_push ns n room.apart (not_there n ns past)
@@ -37,7 +37,7 @@ module _ (o : Order) (room : Room o) (n : ℕ) (number : Number n) (at : ℕ) (e
   pub note_room : o.count < 1024
   note_room =
       let few =
-      no_more 1024 (ns ++ n ∷ []) (AllWeaker Number (λ k. 1 ≤ k) (λ k h. h.0) _ numbers) (AllWeaker Number (λ k. k ≤ 1024) (λ k h. h.1) _ numbers) apart in
+      no_more 1024 (ns ++ n ∷ []) (All-weaker Number (λ k. 1 ≤ k) (λ k h. h.0) _ numbers) (All-weaker Number (λ k. k ≤ 1024) (λ k h. h.1) _ numbers) apart in
       omega (arith, length_push ns n, length_listed o room, few)
 
   more : take (o.count + 1) (set o.list o.count n) ≡ ns ++ n ∷ []
@@ -46,14 +46,14 @@ module _ (o : Order) (room : Room o) (n : ℕ) (number : Number n) (at : ℕ) (e
   pub note_new : Room (record { list = set o.list o.count n; count = o.count + 1 })
   note_new =
       record {
-        table = length_set o.list o.count n ∙ room.table;
+        table = length-set o.list o.count n ∙ room.table;
         count = omega (arith, note_room);
         numbers = subst (All Number) (sym more) numbers;
         apart = subst Apart (sym more) apart;
       }
 
   pub note_listed : take (o.count + 1) (set o.list o.count n) ≡ listed ns n
-  note_listed = more ∙ sym (cond_false (leb (place n ns) (length ns)) ns (ns ++ n ∷ []) (lt_leb (place n ns) (length ns) past))
+  note_listed = more ∙ sym (cond-false (leb (place n ns) (length ns)) ns (ns ++ n ∷ []) (lt-leb (place n ns) (length ns) past))
 
 -- the numbers of a record
 module _ {X : Type 0} (f : X → ℕ) where

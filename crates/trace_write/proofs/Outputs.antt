@@ -1,6 +1,6 @@
 -- The file as four writes: how long it is, and that they give it.
 use Rattle.std.proofs.Common.{◌≡◌, ℕ, ◌+◌, ◌≤◌, List, ◌++◌, map, length, sym, ap, ◌∙◌, arith}
-use Rattle.std.proofs.lemmas.List.{length-append, length_map}
+use Rattle.std.proofs.lemmas.List.{length-append, length-map}
 use Rattle.std.specs.List.{flat_map}
 use Rattle.model.specs.Contents.{Pool, content}
 use Rattle.model.specs.Records.{said}
@@ -27,9 +27,9 @@ module _ (p : Pool) (ns : List ℕ) (rs : List Code.Record) where
   encoded_is =
       let cs = map (content p) ns in
       let ss = map said rs in
-      let count = length_map ss (indexed ns) ∙ length_map rs said in
+      let count = length-map ss (indexed ns) ∙ length-map rs said in
       let records = joined_map record_bytes (indexed ns) ss ∙ joined_map (λ s. record_bytes (indexed ns s)) said rs in
-      ap (λ n. ((two_bytes n ++ flat_map (content_of p) ns) ++ two_bytes (length rs)) ++ flat_map (record_of ns) rs) (sym (length_map ns (content p)))
+      ap (λ n. ((two_bytes n ++ flat_map (content_of p) ns) ++ two_bytes (length rs)) ++ flat_map (record_of ns) rs) (sym (length-map ns (content p)))
       ∙ ap (λ l. ((two_bytes (length cs) ++ l) ++ two_bytes (length rs)) ++ flat_map (record_of ns) rs) (sym (joined_map content_bytes (content p) ns))
       ∙ ap (λ n. ((two_bytes (length cs) ++ flat_map content_bytes cs) ++ two_bytes n) ++ flat_map (record_of ns) rs) (sym count)
       ∙ ap (λ l. ((two_bytes (length cs) ++ flat_map content_bytes cs) ++ two_bytes (length (map (indexed ns) ss))) ++ l) (sym records)

@@ -1,9 +1,9 @@
 -- The contents and records of an accepted file, taken into an empty pool and book, are saved as the file's own trace.
-use Rattle.std.proofs.Common.{◌≡◌, ℕ, zero, suc, ◌+◌, ◌-◌, ◌<◌, ◌≤◌, max, Bool, true, false, cond, not, ◌&&◌, eqb, leb, List, [], ◌∷◌, ◌++◌, map, length, get_or, take, Some, None, Ok, sym, refl, ap, ◌∙◌, inl, inr, append_assoc, append_nil, arith}
-use Rattle.std.proofs.lemmas.Slice.Eq.{bytes_eq_Decides}
-use Rattle.std.proofs.ByRecursion.{AllPush, AllWeaker}
+use Rattle.std.proofs.Common.{◌≡◌, ℕ, zero, suc, ◌+◌, ◌-◌, ◌<◌, ◌≤◌, max, Bool, true, false, cond, not, ◌&&◌, eqb, leb, List, [], ◌∷◌, ◌++◌, map, length, get_or, take, Some, None, Ok, sym, refl, ap, ◌∙◌, inl, inr, append_assoc, append-nil, arith}
+use Rattle.std.proofs.lemmas.Slice.Eq.{bytes_eq-Decides}
+use Rattle.std.proofs.ByRecursion.{All-push, All-weaker}
 use Rattle.std.proofs.lemmas.List.{length_push, map_push, take_more, take_all}
-use Rattle.std.proofs.lemmas.Bool.{cond_true, cond_false, and_parts, and_from, or_parts, not_true, not_from_false, le_leb, lt_leb, leb_true, lt_ltb, eqb_true, eqb_false, cases_eq, cases_lt}
+use Rattle.std.proofs.lemmas.Bool.{cond-true, cond-false, and_parts, and_from, or_parts, not-true, not_from_false, le-leb, lt-leb, leb-true, lt-ltb, eqb-true, eqb-false, cases_eq, cases_lt}
 use Rattle.std.specs.List.{flat_map, AllByRecursion as All}
 use Rattle.std.specs.Str.{bytes_eq}
 use Rattle.model.specs.Contents.{Content, Pool, mem, find, up, fits, given, put, content}
@@ -33,7 +33,7 @@ put_new p x es e new ne = by (mem x p.contents) (fits p x) (ap (mem x) e ∙ new
     by false false f n = absurd (n refl)
 
 pub put_all : (xs es : List Content) (p q : Pool) → p.contents ≡ es → each content_ok push es xs ≡ true → puts xs p ≡ Some q → q.contents ≡ es ++ xs
-put_all [] es p q e ok h = let same : p ≡ q = cc in ap (λ r. r.contents) (sym same) ∙ e ∙ sym (append_nil es)
+put_all [] es p q e ok h = let same : p ≡ q = cc in ap (λ r. r.contents) (sym same) ∙ e ∙ sym (append-nil es)
 put_all (x ∷ xs) es p q e ok h = by (eqb (given p x) 0) refl h (λ a b. put_all xs (push es x) (put p x) q a c.1 b)
   where
     c : (content_ok es x ≡ true) × (each content_ok push (push es x) xs ≡ true)
@@ -42,17 +42,17 @@ put_all (x ∷ xs) es p q e ok h = by (eqb (given p x) 0) refl h (λ a b. put_al
     by : (b : Bool) → eqb (given p x) 0 ≡ b → cond b None (puts xs (put p x)) ≡ Some q → ((put p x).contents ≡ push es x → puts xs (put p x) ≡ Some q → q.contents ≡ push es x ++ xs) → q.contents ≡ es ++ x ∷ xs
     by true b f more = let z : ◌≡◌ {A = ℕ} 0 1 = cc in absurd (omega arith)
     by false b f more =
-        let new = not_true (mem x es) (and_parts (leb (length x) 4096) (not (mem x es)) c.0).1 in
-        more (put_new p x es e new (eqb_false (given p x) 0 b)) f ∙ append_assoc es (x ∷ []) xs
+        let new = not-true (mem x es) (and_parts (leb (length x) 4096) (not (mem x es)) c.0).1 in
+        more (put_new p x es e new (eqb-false (given p x) 0 b)) f ∙ append_assoc es (x ∷ []) xs
 
 -- so each has the number of its place
 find_new : (x : Content) (es ys : List Content) → mem x es ≡ false → find x (es ++ x ∷ ys) ≡ length es + 1
-find_new x [] ys m = cond_true (bytes_eq x x) 1 (up (find x ys)) ((bytes_eq_Decides x x).1 refl)
+find_new x [] ys m = cond-true (bytes_eq x x) 1 (up (find x ys)) ((bytes_eq-Decides x x).1 refl)
 find_new x (e ∷ es) ys m =
     let t = or_parts (bytes_eq x e) (mem x es) m in
     let one : length es + 1 ≡ suc (length es) = omega arith in
     let two : suc (suc (length es)) ≡ suc (length es) + 1 = omega arith in
-    cond_false (bytes_eq x e) 1 (up (find x (es ++ x ∷ ys))) t.0 ∙ ap up (find_new x es ys t.1 ∙ one) ∙ two
+    cond-false (bytes_eq x e) 1 (up (find x (es ++ x ∷ ys))) t.0 ∙ ap up (find_new x es ys t.1 ∙ one) ∙ two
 
 find_place : (xs es : List Content) (j : ℕ) → each content_ok push es xs ≡ true → j < length xs → find (get_or xs j []) (es ++ xs) ≡ length es + j + 1
 find_place [] es j ok h = absurd (omega arith)
@@ -60,7 +60,7 @@ find_place (x ∷ xs) es zero ok h =
     let c = and_parts (content_ok es x) _ ok in
     let d = and_parts (leb (length x) 4096) (not (mem x es)) c.0 in
     let z : length es + 1 ≡ length es + 0 + 1 = omega arith in
-    find_new x es xs (not_true (mem x es) d.1) ∙ z
+    find_new x es xs (not-true (mem x es) d.1) ∙ z
 find_place (x ∷ xs) es (suc j) ok h =
     let c = and_parts (content_ok es x) (each content_ok push (push es x) xs) ok in
     let l = length_push es x in
@@ -82,7 +82,7 @@ length_upto (suc h) = let a = length_push (upto h) (suc h) in let b = length_upt
 below : (h : ℕ) → All (λ m. m ≤ h) (upto h)
 unfolding upto
 below zero = tt
-below (suc h) = AllPush (λ m. m ≤ suc h) (upto h) (suc h) (AllWeaker (λ m. m ≤ h) (λ m. m ≤ suc h) (λ m l. omega arith) (upto h) (below h)) (omega arith)
+below (suc h) = All-push (λ m. m ≤ suc h) (upto h) (suc h) (All-weaker (λ m. m ≤ h) (λ m. m ≤ suc h) (λ m l. omega arith) (upto h) (below h)) (omega arith)
 
 place_none : (n : ℕ) (o : List ℕ) → All (λ m. n ≡ m → ⊥) o → place n o ≡ length o + 1
 place_none n [] a = refl
@@ -90,7 +90,7 @@ place_none n (m ∷ o) a = let b = place_other n m o a.0 in let c = place_none n
 
 place_above : (n h : ℕ) → h < n → place n (upto h) ≡ h + 1
 place_above n h lt =
-    place_none n (upto h) (AllWeaker (λ m. m ≤ h) (λ m. n ≡ m → ⊥) (λ m l e. omega arith) (upto h) (below h)) ∙ ap (λ k. k + 1) (length_upto h)
+    place_none n (upto h) (All-weaker (λ m. m ≤ h) (λ m. n ≡ m → ⊥) (λ m l e. omega arith) (upto h) (below h)) ∙ ap (λ k. k + 1) (length_upto h)
 
 place_upto : (h i : ℕ) → 1 ≤ i → i ≤ h → place i (upto h) ≡ i
 unfolding upto
@@ -117,13 +117,13 @@ list_upto h i a b =
           (let past = place_above i h lt in
           let same : i ≡ suc h = omega arith in
           let top : max h i ≡ suc h = omega arith in
-          cond_false (leb (place i (upto h)) (length (upto h))) (upto h) (upto h ++ i ∷ []) (lt_leb _ _ (omega arith))
+          cond-false (leb (place i (upto h)) (length (upto h))) (upto h) (upto h ++ i ∷ []) (lt-leb _ _ (omega arith))
           ∙ ap (λ k. upto h ++ k ∷ []) same
           ∙ ap upto (sym top))
       | inr le ↦
           (let at = place_upto h i a le in
           let top : max h i ≡ h = omega arith in
-          cond_true (leb (place i (upto h)) (length (upto h))) (upto h) (upto h ++ i ∷ []) (le_leb _ _ (omega arith)) ∙ ap upto (sym top))
+          cond-true (leb (place i (upto h)) (length (upto h))) (upto h) (upto h ++ i ∷ []) (le-leb _ _ (omega arith)) ∙ ap upto (sym top))
     ]
 
 -- THE RECORDS KEEP THEIR INDICES
@@ -141,7 +141,7 @@ use_lawful n h u e =
     let a = and_parts (leb u.file 63) (index_ok n h i) e in
     let b = and_parts (leb 1 i && leb i n) (leb i (h + 1)) a.1 in
     let c = and_parts (leb 1 i) (leb i n) b.0 in
-    record { file = a.0; low = leb_true 1 i c.0; high = leb_true i n c.1; next = leb_true i (h + 1) b.1 }
+    record { file = a.0; low = leb-true 1 i c.0; high = leb-true i n c.1; next = leb-true i (h + 1) b.1 }
 
 pub record LawfulRecord (n : ℕ) (s : Before) (r : Record) : Type 0 where
   pub files : files_ok r.command ≡ true
@@ -158,7 +158,7 @@ record_lawful n s r e =
     let c = and_parts (count_ok (length r.reads)) _ a.1 in
     let d = and_parts _ (is_hint r.standing) c.1 in
     let f = and_parts (each (use_ok n) higher s.high r.reads) (use_ok n (after higher s.high r.reads) r.write) d.0 in
-    record { files = b.0; new = not_true _ b.1; count = c.0; reads = f.0; write = f.1; standing = d.1 }
+    record { files = b.0; new = not-true _ b.1; count = c.0; reads = f.0; write = f.1; standing = d.1 }
 
 -- a function of uses that leaves each lawful one as it is
 uses_same : (n h : ℕ) (f : Use → Use) → ((g : ℕ) (u : Use) → LawfulUse n g u → f u ≡ u) → (us : List Use) → each (use_ok n) higher h us ≡ true → map f us ≡ us
@@ -206,7 +206,7 @@ hint_new : (q : Record) (rs : List Record) → known_command q.command (map (λ 
 hint_new q [] e = refl
 hint_new q (r ∷ rs) e =
     let t = or_parts (same_command q.command r.command) (known_command q.command (map (λ s. s.command) rs)) e in
-    cond_false (same_command q.command r.command) (cond (own r.standing) (r ∷ rs) (q ∷ rs)) (r ∷ hint q rs) t.0 ∙ ap (λ l. r ∷ l) (hint_new q rs t.1)
+    cond-false (same_command q.command r.command) (cond (own r.standing) (r ∷ rs) (q ∷ rs)) (r ∷ hint q rs) t.0 ∙ ap (λ l. r ∷ l) (hint_new q rs t.1)
 
 -- the state after the records rs
 abbrev Met : Before → List Record → Type 0
@@ -234,7 +234,7 @@ module _ (cs : List Content) (q : Pool) (same : q.contents ≡ cs) (ok : each co
   use_passes g u l =
       let c = ap length same in
       let high = l.high in
-      and_from (leb u.file 63) _ l.file (and_from (leb 1 u.number) _ (le_leb _ _ l.low) (le_leb _ _ (omega arith)))
+      and_from (leb u.file 63) _ l.file (and_from (leb 1 u.number) _ (le-leb _ _ l.low) (le-leb _ _ (omega arith)))
 
   savable_is : (s : Before) (r : Record) → LawfulRecord n s r → savable q r ≡ true
   savable_is s r l =
@@ -245,7 +245,7 @@ module _ (cs : List Content) (q : Pool) (same : q.contents ≡ cs) (ok : each co
       (and_from _ _ l.count (and_from _ _ (uses_pass n s.high (use_savable q) use_passes r.reads l.reads) (use_passes h r.write (use_lawful n h r.write l.write)))))
 
   pub hints_all : (s : Before) (old qs : List Record) → Met s old → each (record_ok n) noted s qs ≡ true → hints cs q qs old ≡ old ++ qs
-  hints_all s old [] m e = sym (append_nil old)
+  hints_all s old [] m e = sym (append-nil old)
   hints_all s old (r ∷ qs) m e =
       let a = and_parts (record_ok n s r) _ e in
       let l = record_lawful n s r a.0 in
@@ -257,16 +257,16 @@ module _ (cs : List Content) (q : Pool) (same : q.contents ≡ cs) (ok : each co
       ∙ append_assoc old (r ∷ []) qs
 
   choices_all : (s : Before) (old qs : List Record) → Met s old → each (record_ok n) noted s qs ≡ true → length old + length qs ≤ 256 → after (choice q) old qs ≡ old ++ qs
-  choices_all s old [] m e few = sym (append_nil old)
+  choices_all s old [] m e few = sym (append-nil old)
   choices_all s old (r ∷ qs) m e few =
       let a = and_parts (record_ok n s r) _ e in
       let l = record_lawful n s r a.0 in
       let new = ap (known_command r.command) (sym m) ∙ l.new in
       let taken =
       and_from (savable q r) _ (savable_is s r l)
-      (and_from (not (known_command r.command (map (λ x. x.command) old))) _ (not_from_false _ new) (lt_ltb (length old) 256 (omega arith))) in
+      (and_from (not (known_command r.command (map (λ x. x.command) old))) _ (not_from_false _ new) (lt-ltb (length old) 256 (omega arith))) in
       let more = length_push old r in
-      ap (λ o. after (choice q) o qs) (cond_true (savable q r && is_new old r) (old ++ r ∷ []) old taken)
+      ap (λ o. after (choice q) o qs) (cond-true (savable q r && is_new old r) (old ++ r ∷ []) old taken)
       ∙ choices_all (noted s r) (old ++ r ∷ []) qs (met_more s old r m) a.1 (omega arith)
       ∙ append_assoc old (r ∷ []) qs
 
@@ -324,7 +324,7 @@ lawful_parts t e =
     let b = and_parts (leb (length t.contents) 1024) _ a.0 in
     let c = and_parts _ (eqb (after noted start t.records).high (length t.contents)) a.1 in
     let d = and_parts (leb (length t.records) 256) _ c.0 in
-    record { contents = b.1; few = leb_true (length t.records) 256 d.0; records = d.1; high = eqb_true _ _ c.1 }
+    record { contents = b.1; few = leb-true (length t.records) 256 d.0; records = d.1; high = eqb-true _ _ c.1 }
 
 pub saved_again : (bs : List ℕ) (t : Traced) (p q : Pool) → Bytes bs → decoded bs ≡ Ok t → p.contents ≡ [] → puts t.contents p ≡ Some q → encoded (to_save q (hints t.contents q t.records [])) ≡ bs
 saved_again bs t p q ok e empty taken =

@@ -1,8 +1,8 @@
 -- What is so of the records that are chosen: each may be saved, no two have one command, and there are no more than 256.
-use Rattle.std.proofs.Common.{◌≡◌, ℕ, ◌≤◌, Bool, true, false, cond, not, ◌&&◌, ltb, leb, List, [], ◌∷◌, ◌++◌, map, length, sym, refl, ap, ◌∙◌, subst, append_assoc, append_nil, arith}
-use Rattle.std.proofs.ByRecursion.{AllAppend}
+use Rattle.std.proofs.Common.{◌≡◌, ℕ, ◌≤◌, Bool, true, false, cond, not, ◌&&◌, ltb, leb, List, [], ◌∷◌, ◌++◌, map, length, sym, refl, ap, ◌∙◌, subst, append_assoc, append-nil, arith}
+use Rattle.std.proofs.ByRecursion.{All-append}
 use Rattle.std.proofs.lemmas.List.{length_push}
-use Rattle.std.proofs.lemmas.Bool.{and_parts, and_from, leb_true, ltb_true}
+use Rattle.std.proofs.lemmas.Bool.{and_parts, and_from, leb-true, ltb-true}
 use Rattle.std.specs.List.{flat_map, AllByRecursion as All}
 use Rattle.model.specs.Contents.{Pool, count, holds}
 use Rattle.model.specs.Records.{Record, said}
@@ -19,7 +19,7 @@ abbrev pub with_command : List Command → Record → List Command
 with_command cs r = push cs r.command
 
 pub commands_after : (cs : List Command) (ss : List Record) → after with_command cs ss ≡ cs ++ map (λ s. s.command) ss
-commands_after cs [] = sym (append_nil cs)
+commands_after cs [] = sym (append-nil cs)
 commands_after cs (s ∷ ss) = commands_after (push cs s.command) ss ∙ append_assoc cs (s.command ∷ []) (map (λ r. r.command) ss)
 
 pub each_push : {S X : Type 0} (ok : S → X → Bool) (next : S → X → S) (s : S) (xs : List X) (x : X) → each ok next s xs ≡ true → ok (after next s xs) x ≡ true → each ok next s (xs ++ x ∷ []) ≡ true
@@ -44,7 +44,7 @@ module _ (p : Pool) where
       by true e more =
           let x = and_parts (savable p r) (is_new ss r) e in
           let y = and_parts (not (known_command r.command (map (λ s. s.command) ss))) (ltb (length ss) 256) x.1 in
-          let few = ltb_true (length ss) 256 y.1 in
+          let few = ltb-true (length ss) 256 y.1 in
           let fresh = ap (λ cs. not (known_command r.command cs)) (commands_after [] ss) ∙ y.0 in
           more (ss ++ r ∷ []) (each_push chosen_ok with_command [] ss r a (and_from (savable p r) _ x.0 fresh)) (omega (arith, length_push ss r))
 
@@ -67,7 +67,7 @@ module _ (p : Pool) where
   use_in u e =
       let a = and_parts (leb u.file 63) (holds p u.number) e in
       let b = and_parts (leb 1 u.number) (leb u.number (count p)) a.1 in
-      (leb_true 1 u.number b.0, leb_true u.number (count p) b.1)
+      (leb-true 1 u.number b.0, leb-true u.number (count p) b.1)
 
   uses_in : (us : List Use) → every (use_savable p) us ≡ true → All (In p) (map (λ u. u.number) us)
   uses_in [] e = tt
@@ -76,14 +76,14 @@ module _ (p : Pool) where
   pub numbers_in_pool : (r : Record) → savable p r ≡ true → All (In p) (numbers_in r)
   numbers_in_pool r e =
       let s = savable_parts r e in
-      AllAppend (In p) (map (λ u. u.number) r.reads) (r.write.number ∷ []) (uses_in r.reads s.reads) (use_in r.write s.write, tt)
+      All-append (In p) (map (λ u. u.number) r.reads) (r.write.number ∷ []) (uses_in r.reads s.reads) (use_in r.write s.write, tt)
 
   pub all_numbers : (cs : List Command) (ss : List Record) → each chosen_ok with_command cs ss ≡ true → All (In p) (flat_map numbers_in ss)
   all_numbers cs [] e = tt
   all_numbers cs (s ∷ ss) e =
       let a = and_parts (chosen_ok cs s) _ e in
       let b = and_parts (savable p s) (not (known_command s.command cs)) a.0 in
-      AllAppend (In p) (numbers_in s) (flat_map numbers_in ss) (numbers_in_pool s b.0) (all_numbers (push cs s.command) ss a.1)
+      All-append (In p) (numbers_in s) (flat_map numbers_in ss) (numbers_in_pool s b.0) (all_numbers (push cs s.command) ss a.1)
 
   in_number : Sound p → (ns : List ℕ) → All (In p) ns → All Number ns
   in_number sound [] a = tt

@@ -1,6 +1,6 @@
 -- A loop that adds up sizes, and what each size is.
 use Rattle.std.proofs.Common.{◌≡◌, ℕ, ◌+◌, ◌*◌, ◌<◌, ◌≤◌, List, [], ◌∷◌, ◌++◌, map, length, get_or, drop, sym, refl, ap, ◌∙◌, mul-one, mul-add, arith}
-use Rattle.std.proofs.lemmas.List.{length-append, length_map, at_drop_more, at_drop_all}
+use Rattle.std.proofs.lemmas.List.{length-append, length-map, at_drop_more, at_drop_all}
 use Rattle.std.specs.List.{flat_map}
 use Rattle.model.specs.Contents.{Pool, content}
 use Rattle.model.specs.Records.{said}
@@ -28,7 +28,7 @@ fields ns r us = ((command_bytes r.command ++ length us ∷ []) ++ flat_map (use
 pub fields_are : (ns : List ℕ) (r : Code.Record) → fields ns r (said r).reads ≡ record_of ns r
 fields_are ns r =
     let us = (said r).reads in
-    ap (λ k. ((command_bytes r.command ++ k ∷ []) ++ flat_map (use_of ns) us) ++ use_of ns r.write) (sym (length_map us (indexed_use ns)))
+    ap (λ k. ((command_bytes r.command ++ k ∷ []) ++ flat_map (use_of ns) us) ++ use_of ns r.write) (sym (length-map us (indexed_use ns)))
     ∙ ap (λ l. ((command_bytes r.command ++ length (map (indexed_use ns) us) ∷ []) ++ l) ++ use_of ns r.write) (sym (joined_map use_bytes (indexed_use ns) us))
 
 pub fields_size : (ns : List ℕ) (r : Code.Record) (us : List Use) → length (fields ns r us) ≡ 9 + 3 * length us

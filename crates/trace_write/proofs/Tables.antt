@@ -1,7 +1,7 @@
 -- The tables that a save makes hold what is to be saved, and what it writes is accepted.
 use Rattle.std.proofs.Common.{◌≡◌, ℕ, ◌+◌, ◌-◌, ◌≤◌, Bool, true, false, leb, List, [], ◌++◌, map, length, take, drop, IfOk, Ok, Err, Result, sym, refl, ap, ◌∙◌, subst, arith}
-use Rattle.std.proofs.lemmas.List.{length_map, take_at}
-use Rattle.std.proofs.lemmas.Bool.{cond_true, cond_false}
+use Rattle.std.proofs.lemmas.List.{length-map, take_at}
+use Rattle.std.proofs.lemmas.Bool.{cond-true, cond-false}
 use Rattle.std.specs.List.{AllByRecursion as All}
 use Rattle.model.specs.Contents.{Pool}
 use Rattle.model.specs.Records.{Record, said}
@@ -35,7 +35,7 @@ module _ (p : Pool) (sound : Sound p) (rs : List Record) (c : Chosen) (e : recor
   kept_named = all_named p sound [] kept (subst (λ ss. each (chosen_ok p) with_command [] ss ≡ true) (sym kept_are) (chosen_are p sound rs).0)
 
   pub kept_few : length kept ≤ 256
-  kept_few = omega (arith, length_map kept said, ap length kept_are, (chosen_are p sound rs).1)
+  kept_few = omega (arith, length-map kept said, ap length kept_are, (chosen_are p sound rs).1)
 
   module _ (o : Order) (f : numbers_of o ≡ order (map said kept)) where
     used_are : take (o.count - 0) o.list ≡ order (chosen p rs)
@@ -54,10 +54,10 @@ module _ (t : Traced) (bs : List ℕ) where
     where
       by : (b : Bool) → leb (length (encoded t)) (length bs) ≡ b → IfOk r (λ n. decoded (take n ds) ≡ Ok t)
       by true h =
-          let answer = e ∙ cond_true (leb (length (encoded t)) (length bs)) (Ok (length (encoded t))) (Err SaveBufferShort) h in
-          let whole = f ∙ cond_true (leb (length (encoded t)) (length bs)) (put 0 (encoded t) bs) bs h in
+          let answer = e ∙ cond-true (leb (length (encoded t)) (length bs)) (Ok (length (encoded t))) (Err SaveBufferShort) h in
+          let whole = f ∙ cond-true (leb (length (encoded t)) (length bs)) (put 0 (encoded t) bs) bs h in
           let front = ap (take (length (encoded t))) whole ∙ take_at (encoded t) (drop (0 + length (encoded t)) bs) (length (encoded t)) refl in
           subst (λ q. IfOk q (λ n. decoded (take n ds) ≡ Ok t)) (sym answer) (ap decoded front ∙ back)
       by false h =
-          let answer = e ∙ cond_false (leb (length (encoded t)) (length bs)) (Ok (length (encoded t))) (Err SaveBufferShort) h in
+          let answer = e ∙ cond-false (leb (length (encoded t)) (length bs)) (Ok (length (encoded t))) (Err SaveBufferShort) h in
           subst (λ q. IfOk q (λ n. decoded (take n ds) ≡ Ok t)) (sym answer) tt

@@ -1,7 +1,7 @@
 -- Writes one after the other.
 use Rattle.std.proofs.Common.{◌≡◌, ℕ, suc, ◌+◌, ◌-◌, ◌<◌, ◌≤◌, List, [], ◌∷◌, ◌++◌, length, get_or, take, drop, set, sym, refl, ap, ◌∙◌, append_assoc, arith}
 use borrow.Rule.Slice.PartMut.{put_mid}
-use Rattle.std.proofs.lemmas.List.{set_split, drop_drop, drop_at, take_at, length-take-le, length-append, length_drop, take-append-drop, at_drop_more, at_drop_all}
+use Rattle.std.proofs.lemmas.List.{set_split, drop-drop, drop_at, take_at, length-take-le, length-append, length-drop, take-append-drop, at_drop_more, at_drop_all}
 use Rattle.std.specs.List.{flat_map}
 use Rattle.trace_write.specs.Puts.{put}
 
@@ -15,14 +15,14 @@ pub put_piece : (at : ℕ) (xs ys bs : List ℕ) → ys ≡ xs → put_mid at (a
 put_piece at xs ys bs e =
     let z : at + (at + length xs - at) ≡ at + length xs = omega arith in
     ap (λ l. put_mid at (at + length xs - at) bs l) e
-    ∙ ap (λ l. take at bs ++ (xs ++ l)) (drop_drop (at + length xs - at) at bs ∙ ap (λ k. drop k bs) z)
+    ∙ ap (λ l. take at bs ++ (xs ++ l)) (drop-drop (at + length xs - at) at bs ∙ ap (λ k. drop k bs) z)
 
 pub length_put : (at : ℕ) (xs bs : List ℕ) → at + length xs ≤ length bs → length (put at xs bs) ≡ length bs
 length_put at xs bs h =
     let a = length-append (take at bs) (xs ++ drop (at + length xs) bs) in
     let b = length-append xs (drop (at + length xs) bs) in
     let c = length-take-le at bs (omega arith) in
-    let d = length_drop (at + length xs) bs in
+    let d = length-drop (at + length xs) bs in
     omega arith
 
 pub put_put : (at : ℕ) (xs ys bs : List ℕ) → at + length xs ≤ length bs → put (at + length xs) ys (put at xs bs) ≡ put at (xs ++ ys) bs
@@ -36,9 +36,9 @@ put_put at xs ys bs h =
     let front : take (at + length xs) (put at xs bs) ≡ p = ap (take (at + length xs)) shape ∙ take_at p q (at + length xs) n in
     let back : drop (at + length xs + length ys) (put at xs bs) ≡ drop (at + length (xs ++ ys)) bs =
     ap (drop (at + length xs + length ys)) shape
-    ∙ sym (drop_drop (length ys) (at + length xs) (p ++ q))
+    ∙ sym (drop-drop (length ys) (at + length xs) (p ++ q))
     ∙ ap (drop (length ys)) (drop_at p q (at + length xs) n)
-    ∙ drop_drop (length ys) (at + length xs) bs
+    ∙ drop-drop (length ys) (at + length xs) bs
     ∙ (let m = length-append xs ys in let z : at + length xs + length ys ≡ at + length (xs ++ ys) = omega arith in ap (λ k. drop k bs) z) in
     ap (λ a. a ++ (ys ++ drop (at + length xs + length ys) (put at xs bs))) front
     ∙ ap (λ a. p ++ (ys ++ a)) back

@@ -1,6 +1,6 @@
 ghost use Rattle.std.specs.Prelude.{◌≡◌, ℕ, ◌-◌, ◌≤◌, true, false, length, take, ◌≢◌};
 ghost use Rattle.std.specs.Str.{bytes_eq};
-ghost use Rattle.model.specs.Contents.{content as content_of, count as count_of, used as used-by, holds, mem, find, fits, given, put, cut};
+ghost use Rattle.model.specs.Contents.{content as content_of, count as count_of, used as used_by, holds, mem, find, fits, given, put, cut};
 ghost use Rattle.pool.specs.Contents.{meant, shown, part};
 ghost use Rattle.pool.specs.Sound.{Sound};
 
@@ -20,7 +20,7 @@ impl<'a> Pool<'a> {
 
     /// How many bytes its contents have together.
     pub(super) fn filled(&self) -> usize
-        ensures { result ≡ used-by (meant self.now).contents }
+        ensures { result ≡ used_by (meant self.now).contents }
     {
         self.store.used
     }
@@ -29,7 +29,7 @@ impl<'a> Pool<'a> {
     pub(super) fn numbered(&self, number: u16) -> Content<'_>
         requires { holds (meant self.now) number ≡ true }
         ensures value { shown result ≡ content_of (meant self.now) number }
-        ensures start { result.start ≡ used-by (take (number - 1) (meant self.now).contents) }
+        ensures start { result.start ≡ used_by (take (number - 1) (meant self.now).contents) }
         ensures part { shown result ≡ part self.now result.start (length (shown result)) }
     {
         self.store.at((number - 1) as usize)

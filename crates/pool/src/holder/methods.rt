@@ -1,6 +1,6 @@
 ghost use Rattle.std.specs.Prelude.{◌≡◌, ◌-◌, ◌≤◌, min, [], length, take, IfSome, is_ok, nat_lt};
 ghost use Rattle.std.specs.Option.{option_map};
-ghost use Rattle.model.specs.Contents.{content as content_of, count as count_of, used as used-by, told, holds, known, find, given, put, cut};
+ghost use Rattle.model.specs.Contents.{content as content_of, count as count_of, used as used_by, told, holds, known, find, given, put, cut};
 ghost use Rattle.pool.specs.Contents.{meant, shown, part, number_told};
 ghost use Rattle.pool.specs.Sound.{Sound};
 
@@ -32,7 +32,7 @@ impl<'a> Pool<'a> {
 
     /// How many bytes its contents have together.
     pub fn used(&self) -> usize
-        ensures { result ≡ used-by (meant self.now).contents }
+        ensures { result ≡ used_by (meant self.now).contents }
     {
         self.filled()
     }
@@ -56,7 +56,7 @@ impl<'a> Pool<'a> {
     /// number that is not in the pool.
     pub fn content(&self, number: u16) -> Option<Content<'_>>
         ensures told { option_map shown result ≡ told (meant self.now) number }
-        ensures start { IfSome result (λ c. c.start ≡ used-by (take (number - 1) (meant self.now).contents)) }
+        ensures start { IfSome result (λ c. c.start ≡ used_by (take (number - 1) (meant self.now).contents)) }
         ensures part { IfSome result (λ c. shown c ≡ part self.now c.start (length (shown c))) }
     {
         if self.holds(number) {

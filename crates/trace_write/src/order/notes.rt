@@ -3,7 +3,7 @@ ghost use Rattle.std.specs.List.{AllByRecursion as All};
 ghost use Rattle.model.specs.Records.{said};
 ghost use Rattle.trace.specs.Reads.{after};
 ghost use Rattle.trace_write.specs.Puts.{numbers_of, number_of_use};
-ghost use Rattle.trace_write.specs.Saves.{place as place_of, listed, numbers_in, order as order-in};
+ghost use Rattle.trace_write.specs.Saves.{place as place_of, listed, numbers_in, order as order_in};
 ghost use Rattle.trace_write.specs.Rooms.{Number, Named, Room};
 
 use crate::order::Order;
@@ -68,7 +68,7 @@ impl Order {
 pub fn order_of(records: &[Record]) -> Order
     requires { All Named records.now }
     ensures room { Room result }
-    ensures value { numbers_of result ≡ order-in (map said records.now) }
+    ensures value { numbers_of result ≡ order_in (map said records.now) }
 {
     let mut order = Order {
         list: [0; 1024],

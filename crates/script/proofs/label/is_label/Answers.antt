@@ -1,6 +1,6 @@
 -- Each byte passes the test.
 use Rattle.std.proofs.Common.{sym, arith}
-use Rattle.std.proofs.lemmas.Bool.{le_leb, and_right, and_from}
+use Rattle.std.proofs.lemmas.Bool.{le-leb, and_right, and_from}
 use Rattle.script.proofs.EachByte.{all_none, all_stop, all_more}
 use Rattle.script.proofs.label.is_label.Goals as goal
 use Rattle.script.specs.Text.{label_byte}
@@ -15,4 +15,4 @@ loop-b-preserved c =
 
 pub returns : goal.returns
 returns c =
-    sym (and_from _ _ (le_leb _ 16 (omega arith)) (sym (all_none label_byte c.args.word.now c.loop-b.b-index c.loop-b.invariant (omega arith))))
+    sym (and_from _ _ (le-leb _ 16 (omega arith)) (sym (all_none label_byte c.args.word.now c.loop-b.b-index c.loop-b.invariant (omega arith))))

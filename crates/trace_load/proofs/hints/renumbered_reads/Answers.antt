@@ -2,7 +2,7 @@
 use Rattle.std.proofs.Common.{◌≡◌, [], ◌∷◌, ◌++◌, map, length, get_or, take, sym, refl, ap, ◌∙◌, arith}
 use Rattle.model.specs.Load.{numbered}
 use Rattle.pool.specs.Contents.{meant}
-use Rattle.std.proofs.lemmas.List.{length_set, take_more_set, take_all, map_more}
+use Rattle.std.proofs.lemmas.List.{length-set, take_more_set, take_all, map_more}
 use Rattle.trace_load.proofs.hints.renumbered_reads.Goals as goal
 
 pub loop-i-init : goal.loop-i-init
@@ -19,7 +19,7 @@ loop-i-preserved c =
           ∙ ap (λ vs. vs ++ x ∷ []) l.invariant.0
           ∙ ap (λ v. map f (take l.i us) ++ v ∷ []) c.renumbered.ensures
           ∙ sym (map_more f us l.i (record { file = 0; number = 0 }) c.loop-i-test.true),
-      length_set l.list l.i x ∙ long,
+      length-set l.list l.i x ∙ long,
     )
 
 pub returns : goal.returns

@@ -3,7 +3,7 @@ use Rattle.std.proofs.Common.{◌≡◌, Bool, true, false, map, length, sym, re
 use Rattle.lists.specs.Held.{held, room}
 use Rattle.model.specs.Records.{said}
 use Rattle.pool.specs.Contents.{meant}
-use Rattle.std.proofs.lemmas.Bool.{leb_true}
+use Rattle.std.proofs.lemmas.Bool.{leb-true}
 use Rattle.trace.specs.Told.{coming}
 use Rattle.trace.specs.Told as told
 use Rattle.trace_load.proofs.Counts.{tested, refused_is, taken_is, same_all, held_within}
@@ -26,7 +26,7 @@ take-all-requires c =
     let p = meant c.args.pool.now in
     let within = held_within b.len b.items.now in
     let test = tested t.contents p t (held b) (room b) c.requires within c.as-slice.result.now (coming c.records.result) c.saturating-sub-free.result c.room.result c.len.result true c.as-slice.ensures c.records.ensures c.saturating-sub-free.ensures c.room.ensures c.len.ensures c.if-not-has-places.ensures in
-    let enough = leb_true _ _ (sym test) in
+    let enough = leb-true _ _ (sym test) in
     let same = ap length (same_all t.contents p t (held b) (room b) c.requires within (map (λ x. x.now) c.contents.result.now) (coming c.records-2.result) c.contents.ensures c.records-2.ensures) in
     omega arith
 

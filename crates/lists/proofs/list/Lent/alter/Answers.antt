@@ -1,6 +1,6 @@
 -- The element of the front that is changed is one of the list.
 use Rattle.std.proofs.Common.{◌<◌, ◌≤◌, ltb, length, ap, arith, rules}
-use Rattle.std.proofs.lemmas.List.{length_set}
+use Rattle.std.proofs.lemmas.List.{length-set}
 use Rattle.lists.specs.Held.{held}
 use Rattle.lists.proofs.Alters.{changed_front, altered_past}
 use Rattle.lists.proofs.Fronts.{in_list}
@@ -24,7 +24,7 @@ returns-then-fits g c =
     record {
       fits = ap (ltb c.args.at) c.len.ensures;
       held = changed_front (g.C.Change.changed c.args.change.now) l.len l.items.now c.args.at c.index-self-at.result c.apply.new.element h c.apply.ensures;
-      room = length_set _ _ _;
+      room = length-set _ _ _;
     }
 
 pub returns-else-fits : goal.returns-else-fits

@@ -1,6 +1,6 @@
 -- An element of the front is one of the list.
 use Rattle.std.proofs.Common.{◌<◌, length, rules}
-use Rattle.std.proofs.lemmas.List.{length_set}
+use Rattle.std.proofs.lemmas.List.{length-set}
 use Rattle.lists.proofs.Fronts.{in_list, set_front}
 use Rattle.lists.proofs.list.Lent.write.Goals as goal
 
@@ -16,4 +16,4 @@ bounds-self-at g c = let l = c.args.self.now in (in_list l.len l.items.now c.arg
 pub returns : goal.returns
 returns g c =
     let l = c.args.self.now in
-    record { held = set_front l.len l.items.now c.args.at c.args.x c.requires; room = length_set _ _ _ }
+    record { held = set_front l.len l.items.now c.args.at c.args.x c.requires; room = length-set _ _ _ }

@@ -1,5 +1,5 @@
 -- The lines below the end are in, and no other.
-use Rattle.std.proofs.Common.{true, refl, ◌∙◌, arith, length_set}
+use Rattle.std.proofs.Common.{true, refl, ◌∙◌, arith, length-set}
 use Rattle.policy.proofs.Lines.{none_below, put_in}
 use Rattle.policy.proofs.line_set.LineSet.below.Goals as goal
 
@@ -10,4 +10,4 @@ pub loop-i-preserved : goal.loop-i-preserved
 loop-i-preserved c =
     let xs = c.loop-i.lines in
     let i = c.loop-i.i in
-    (length_set xs i true ∙ c.loop-i.invariant.0, put_in xs i (omega arith) c.loop-i.invariant.1)
+    (length-set xs i true ∙ c.loop-i.invariant.0, put_in xs i (omega arith) c.loop-i.invariant.1)

@@ -1,5 +1,5 @@
 -- The table tells who waits on whom.
-use Rattle.std.proofs.Common.{map, refl, ◌∙◌, arith, length_set}
+use Rattle.std.proofs.Common.{map, refl, ◌∙◌, arith, length-set}
 use Rattle.model.specs.Records.{said}
 use Rattle.policy.proofs.Waiting.{filled, table_tells}
 use Rattle.policy.proofs.waits.Waits.new.Goals as goal
@@ -11,7 +11,7 @@ pub loop-at-preserved : goal.loop-at-preserved
 loop-at-preserved c =
     let table = c.loop-at.table in
     let at = c.loop-at.at in (
-      length_set table at c.waits-at.result ∙ c.loop-at.invariant.0,
+      length-set table at c.waits-at.result ∙ c.loop-at.invariant.0,
       filled c.found-all-all.result table at c.waits-at.result (omega (arith, c.loop-at.invariant.0)) c.loop-at.invariant.1 c.waits-at.ensures,
     )
 

@@ -1,5 +1,5 @@
 -- One more line has what it finds.
-use Rattle.std.proofs.Common.{map, refl, ◌∙◌, arith, length_set}
+use Rattle.std.proofs.Common.{map, refl, ◌∙◌, arith, length-set}
 use Rattle.model.specs.Records.{said}
 use Rattle.policy.specs.Waiting.{finds}
 use Rattle.policy.proofs.Waiting.{found_more}
@@ -13,7 +13,7 @@ loop-line-preserved c =
     let all = c.loop-line.all in
     let i = c.loop-line.line in
     let x = c.found.result in (
-      length_set all i x ∙ c.loop-line.invariant.0,
+      length-set all i x ∙ c.loop-line.invariant.0,
       found_more (finds c.args.commands.now (map said c.args.records.now)) all i x (omega (arith, c.loop-line.invariant.0)) c.loop-line.invariant.1 c.found.ensures,
     )
 

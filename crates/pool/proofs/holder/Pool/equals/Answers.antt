@@ -1,16 +1,16 @@
 -- The comparison decides that the bytes are the same; of other lengths they are not.
 use Rattle.std.proofs.Common.{sym, ◌∙◌}
-use Rattle.std.proofs.lemmas.Slice.Eq.{slice_eq_Decides, bytes_eq_Decides}
+use Rattle.std.proofs.lemmas.Slice.Eq.{slice_eq-Decides, bytes_eq-Decides}
 use Rattle.std.proofs.lemmas.Bool.{ne_eqb}
-use Rattle.std.proofs.lemmas.Bool.Decides.{same_from_decides, DecidesLike, DecidesEqb}
+use Rattle.std.proofs.lemmas.Bool.Decides.{same_from_decides, Decides-like, Decides-eqb}
 use Rattle.pool.proofs.Finds.{other_length}
 use Rattle.pool.proofs.holder.Pool.equals.Goals as goal
 
 pub returns-then-bytes-content : goal.returns-then-bytes-content
 returns-then-bytes-content c =
     let held = c.bytes-of-bytes.ensures.value in
-    let same = slice_eq_Decides DecidesEqb _ _ _ c.eq.ensures in
-    same_from_decides c.eq.result _ (DecidesLike c.eq.result (λ s. sym s ∙ held) (λ s. held ∙ sym s) same) (bytes_eq_Decides _ _)
+    let same = slice_eq-Decides Decides-eqb _ _ _ c.eq.ensures in
+    same_from_decides c.eq.result _ (Decides-like c.eq.result (λ s. sym s ∙ held) (λ s. held ∙ sym s) same) (bytes_eq-Decides _ _)
 
 pub returns-else-bytes-content : goal.returns-else-bytes-content
 returns-else-bytes-content c =

@@ -1,6 +1,6 @@
 -- Each content is put and its file set, or all is put back.
 use Rattle.std.proofs.Common.{◌<◌, length, sym, ap, ◌∙◌, arith}
-use Rattle.std.proofs.lemmas.Bool.{ltb_true}
+use Rattle.std.proofs.lemmas.Bool.{ltb-true}
 use Rattle.pool.specs.Contents.{meant}
 use Rattle.script.specs.Scripts.{meaning}
 use Rattle.script.specs.Views.{start_of}
@@ -37,7 +37,7 @@ loop-i-preserved g c =
     let lt : c.loop-i.i < length hs = omega (arith, c.haves-haves.ensures.value) in
     let put = c.in-Ok.ensures in
     left_more hs _ _ _ _ c.loop-i.i c.loop-i.invariant (start_of c.in-Some.have) c.in-Some.ensures.value lt _ _ c.in-Ok.put.number put.number
-    (λ z. omega (arith, ltb_true 0 _ (sym put.taken), put.number)) c.set.ensures put.after
+    (λ z. omega (arith, ltb-true 0 _ (sym put.taken), put.number)) c.set.ensures put.after
 
 pub returns : goal.returns
 returns g c =

@@ -1,5 +1,5 @@
 -- `file NN label`.
-use Rattle.std.proofs.Common.{arith, ltb-false, ltb_true}
+use Rattle.std.proofs.Common.{arith, ltb-false, ltb-true}
 use Rattle.script.proofs.TextLines.{two_other, two_none, two_some}
 use Rattle.script.proofs.tables.Tables.file_line.Goals as goal
 use Rattle.model.specs.Digits.{file_number}
@@ -7,15 +7,15 @@ use Rattle.script.specs.Text.{add_label}
 use Rattle.script.specs.Views.{held}
 
 pub returns-in-default : goal.returns-in-default
-returns-in-default c = two_other c.args.args.now _ (omega (arith, ltb_true, ltb-false))
+returns-in-default c = two_other c.args.args.now _ (omega (arith, ltb-true, ltb-false))
 
 pub returns-in-default·2 : goal.returns-in-default·2
-returns-in-default·2 c = two_other c.args.args.now _ (omega (arith, ltb_true, ltb-false))
+returns-in-default·2 c = two_other c.args.args.now _ (omega (arith, ltb-true, ltb-false))
 
 pub returns-in-default-file-number : goal.returns-in-default-file-number
 returns-in-default-file-number c =
-    two_none c.args.args.now _ file_number (add_label (held c.args.self.now)) (omega (arith, ltb_true, ltb-false)) c.in-default-file-number.ensures.value
+    two_none c.args.args.now _ file_number (add_label (held c.args.self.now)) (omega (arith, ltb-true, ltb-false)) c.in-default-file-number.ensures.value
 
 pub returns : goal.returns
 returns c =
-    two_some c.args.args.now _ _ file_number (add_label (held c.args.self.now)) c.in-Some.file _ (omega (arith, ltb_true, ltb-false)) c.in-Some.ensures.value c.add-label.ensures
+    two_some c.args.args.now _ _ file_number (add_label (held c.args.self.now)) c.in-Some.file _ (omega (arith, ltb-true, ltb-false)) c.in-Some.ensures.value c.add-label.ensures

@@ -1,6 +1,6 @@
 -- The loop over the contents gives the section.
 use Rattle.std.proofs.Common.{[], take, refl, ◌∙◌, arith}
-use Rattle.std.proofs.lemmas.List.{length_set, length_map, length-take-le}
+use Rattle.std.proofs.lemmas.List.{length-set, length-map, length-take-le}
 use Rattle.std.proofs.lemmas.Result.{IfOk-from_err}
 use Rattle.trace.proofs.Breaks.{break_told}
 use Rattle.trace.proofs.Pieces.{rest_none, rest_more, rest_stop, rest_all, section_begins}
@@ -32,7 +32,7 @@ loop-i-preserved c =
     let few = c.in-ok-count.ensures.within in (
       rest_more (many a_content push n [] (left c.count.new.self)) n l.list l.i (left l.self) l.invariant.0 c.loop-i-test.true
           c.in-ok-list.field-0 (left c.content.new.self) (omega arith) c.in-ok-list.ensures,
-      length_set l.list l.i c.in-ok-list.field-0 ∙ long,
+      length-set l.list l.i c.in-ok-list.field-0 ∙ long,
     )
 
 pub returns : goal.returns
@@ -41,7 +41,7 @@ returns c =
     let n = c.in-ok-count.count in
     let s = c.count.new.self in
     record {
-      count = let few = c.in-ok-count.ensures.within in let long = l.invariant.1 in length_map (take n l.list) (λ x. x.now) ∙ length-take-le n l.list (omega arith);
+      count = let few = c.in-ok-count.ensures.within in let long = l.invariant.1 in length-map (take n l.list) (λ x. x.now) ∙ length-take-le n l.list (omega arith);
       value =
           rest_all (many a_content push n [] (left s)) n l.list l.i (left l.self) l.invariant.0 c.loop-i-test.false l.auto.i-end
           ∙ section_begins n (left c.args.self.now) (left s) c.in-ok-count.ensures.value;
