@@ -161,10 +161,10 @@ impl<'a, T: Copy> Lent<'a, T> {
         ensures held { held self.new ≡ altered (C.Change.changed change.now) (held self.old) at }
         ensures room { room self.new ≡ room self.old }
     {
-        let fits = at < self.len();
-        if fits {
+        let is_held = at < self.len();
+        if is_held {
             change.apply(&mut self.items[at]);
         }
-        fits
+        is_held
     }
 }

@@ -6,29 +6,29 @@ use Rattle.lists.proofs.Alters.{changed_front, altered_past}
 use Rattle.lists.proofs.Fronts.{in_list}
 use Rattle.lists.proofs.list.Lent.alter.Goals as goal
 
-pub offset-bounds-self-at : goal.offset-bounds-self-at
-offset-bounds-self-at g c =
+pub offset_bounds-self-at : goal.offset_bounds-self-at
+offset_bounds-self-at g c =
     let l = c.args.self.now in
-    let h : c.args.at < length l.items.now = (in_list l.len l.items.now c.args.at (omega (arith, c.len.ensures, c.if-fits.true))).1 in
+    let h : c.args.at < length l.items.now = (in_list l.len l.items.now c.args.at (omega (arith, c.len.ensures, c.if-is_held.true))).1 in
     search rules
 
 pub bounds-self-at : goal.bounds-self-at
 bounds-self-at g c =
     let l = c.args.self.now in
-    (in_list l.len l.items.now c.args.at (omega (arith, c.len.ensures, c.if-fits.true))).1
+    (in_list l.len l.items.now c.args.at (omega (arith, c.len.ensures, c.if-is_held.true))).1
 
-pub returns-then-fits : goal.returns-then-fits
-returns-then-fits g c =
+pub returns-then-is_held : goal.returns-then-is_held
+returns-then-is_held g c =
     let l = c.args.self.now in
-    let h : c.args.at < length (held l) = omega (arith, c.len.ensures, c.if-fits.true) in
+    let h : c.args.at < length (held l) = omega (arith, c.len.ensures, c.if-is_held.true) in
     record {
       fits = ap (ltb c.args.at) c.len.ensures;
       held = changed_front (g.C.Change.changed c.args.change.now) l.len l.items.now c.args.at c.index-self-at.result c.apply.new.element h c.apply.ensures;
       room = length-set _ _ _;
     }
 
-pub returns-else-fits : goal.returns-else-fits
-returns-else-fits g c =
+pub returns-else-is_held : goal.returns-else-is_held
+returns-else-is_held g c =
     let l = c.args.self.now in
-    let h : length (held l) ≤ c.args.at = omega (arith, c.len.ensures, c.if-fits.false) in
+    let h : length (held l) ≤ c.args.at = omega (arith, c.len.ensures, c.if-is_held.false) in
     record { fits = ap (ltb c.args.at) c.len.ensures; held = altered_past (g.C.Change.changed c.args.change.now) (held l) c.args.at h; room = search rules }

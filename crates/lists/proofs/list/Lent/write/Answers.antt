@@ -4,8 +4,8 @@ use Rattle.std.proofs.lemmas.List.{length-set}
 use Rattle.lists.proofs.Fronts.{in_list, set_front}
 use Rattle.lists.proofs.list.Lent.write.Goals as goal
 
-pub offset-bounds-self-at : goal.offset-bounds-self-at
-offset-bounds-self-at g c =
+pub offset_bounds-self-at : goal.offset_bounds-self-at
+offset_bounds-self-at g c =
     let l = c.args.self.now in
     let h : c.args.at < length l.items.now = (in_list l.len l.items.now c.args.at c.requires).1 in
     search rules
