@@ -19,8 +19,8 @@ loop-i-preserved c =
 pub returns-then-bytes-at : goal.returns-then-bytes-at
 returns-then-bytes-at c =
     let long : length c.args.bytes.now ≡ 193 = search rules in
-    walk_found c.args.bytes.now c.args.file c.min-count.result c.loop-i.i c.from-be-bytes.result long c.if-file-ge64.false c.min-count.ensures
-    c.loop-i-test.true c.if-bytes-at.true c.from-be-bytes.ensures c.loop-i.invariant
+    walk_found c.args.bytes.now c.args.file c.min-count.result c.loop-i.i c.from_be_bytes.result long c.if-file-ge64.false c.min-count.ensures
+    c.loop-i-test.true c.if-bytes-at.true c.from_be_bytes.ensures c.loop-i.invariant
 
 pub returns : goal.returns
 returns c =

@@ -6,9 +6,9 @@ use Rattle.script.proofs.label.files_of.Goals as goal
 pub loop-i-init : goal.loop-i-init
 loop-i-init c = filled_none (map (λ x. x.now) c.args.labels.now) c.args.args.now
 
-pub returns-in-default : goal.returns-in-default
-returns-in-default c =
-    filled_fail (map (λ x. x.now) c.args.labels.now) c.args.args.now c.loop-i.files c.loop-i.i c.loop-i.invariant _ c.loop-i-test.true c.in-default.ensures
+pub returns-in_default : goal.returns-in_default
+returns-in_default c =
+    filled_fail (map (λ x. x.now) c.args.labels.now) c.args.args.now c.loop-i.files c.loop-i.i c.loop-i.invariant _ c.loop-i-test.true c.in_default.ensures
 
 pub loop-i-preserved : goal.loop-i-preserved
 loop-i-preserved c =

@@ -9,10 +9,10 @@ use Rattle.script.specs.Views.{held}
 pub returns-in-Err : goal.returns-in-Err
 returns-in-Err c =
     let l = c.loop-at in
-    let e = c.end-of-end.ensures in
+    let e = c.end_of-end.ensures in
     record {
       value =
-          refused c.args.text.now (held l.tables) l.line l.at l.invariant c.end-of-end.result c.loop-at-test.true e.from e.within e.without e.ends
+          refused c.args.text.now (held l.tables) l.line l.at l.invariant c.end_of-end.result c.loop-at-test.true e.from e.within e.without e.ends
           c.in-Err.refusal c.in-Err.ensures;
       sound = tt;
     }
@@ -20,9 +20,9 @@ returns-in-Err c =
 pub loop-at-preserved : goal.loop-at-preserved
 loop-at-preserved c =
     let l = c.loop-at in
-    let e = c.end-of-end.ensures in
-    next_line c.args.text.now (held l.tables) l.line l.at l.invariant c.end-of-end.result c.loop-at-test.true e.from e.within e.without e.ends
-    (held c.add-line.new.self) c.in-default.ensures
+    let e = c.end_of-end.ensures in
+    next_line c.args.text.now (held l.tables) l.line l.at l.invariant c.end_of-end.result c.loop-at-test.true e.from e.within e.without e.ends
+    (held c.add_line.new.self) c.in_default.ensures
 
 pub returns : goal.returns
 returns c =

@@ -16,6 +16,6 @@ returns-then-start-text c =
 pub returns : goal.returns
 returns c =
     let p = c.past-start.ensures in
-    let q = c.end-of-end.ensures in
-    one_word c.args.text.now c.args.from c.past-start.result c.end-of-end.result p.from p.within p.skipped p.ends
+    let q = c.end_of-end.ensures in
+    one_word c.args.text.now c.args.from c.past-start.result c.end_of-end.result p.from p.within p.skipped p.ends
     c.if-start-text.false q.from q.within q.without q.ends

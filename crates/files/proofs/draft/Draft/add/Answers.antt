@@ -12,4 +12,4 @@ pub returns : goal.returns
 returns c =
     let long : length c.args.numbers.now ≡ 64 = search rules in
     added c.args.self.now c.args.numbers.now c.args.file _ _ (omega (arith, c.requires.within)) c.requires.within c.if-number-eq0.false
-    (ap (λ bs. get_or bs 0 0) c.to-be-bytes.ensures) (ap (λ bs. get_or bs 1 0) c.to-be-bytes.ensures) c.requires.drafted
+    (ap (λ bs. get_or bs 0 0) c.to_be_bytes.ensures) (ap (λ bs. get_or bs 1 0) c.to_be_bytes.ensures) c.requires.drafted

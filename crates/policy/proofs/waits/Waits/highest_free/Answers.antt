@@ -11,7 +11,7 @@ loop-line-init c = highest_none (free (waits c.args.self.now) (has c.args.among.
 
 pub loop-line-preserved : goal.loop-line-preserved
 loop-line-preserved c =
-    highest_more (free (waits c.args.self.now) (has c.args.among.now)) c.loop-line.line c.args.default c.loop-line.best c.higher-free-best.result c.loop-line.invariant c.higher-free-best.ensures
+    highest_more (free (waits c.args.self.now) (has c.args.among.now)) c.loop-line.line c.args.default c.loop-line.best c.higher_free-best.result c.loop-line.invariant c.higher_free-best.ensures
 
 pub returns : goal.returns
 returns c =

@@ -6,14 +6,14 @@ use Rattle.policy.proofs.Lines.{some_more}
 use Rattle.policy.proofs.Waiting.{held_some, held_none}
 use Rattle.policy.proofs.waits.Waits.is_free.Goals as goal
 
-pub returns-then-held-up : goal.returns-then-held-up
-returns-then-held-up c =
+pub returns-then-held_up : goal.returns-then-held_up
+returns-then-held_up c =
     let set = has c.args.among.now in
-    held_some set (held_up (waits c.args.self.now) set c.args.line) c.args.line c.loop-earlier.earlier (omega arith) c.if-held-up.ensures
+    held_some set (held_up (waits c.args.self.now) set c.args.line) c.args.line c.loop-earlier.earlier (omega arith) c.if-held_up.ensures
 
 pub loop-earlier-preserved : goal.loop-earlier-preserved
 loop-earlier-preserved c =
-    some_more (held_up (waits c.args.self.now) (has c.args.among.now) c.args.line) c.loop-earlier.earlier c.loop-earlier.invariant (sym c.if-held-up.ensures)
+    some_more (held_up (waits c.args.self.now) (has c.args.among.now) c.args.line) c.loop-earlier.earlier c.loop-earlier.invariant (sym c.if-held_up.ensures)
 
 pub returns : goal.returns
 returns c =

@@ -7,7 +7,7 @@ use Rattle.policy.proofs.waits.found.found.Goals as goal
 
 pub returns-then-line-commands : goal.returns-then-line-commands
 returns-then-line-commands c =
-    c.unless-struck.ensures ∙ ap unless_struck c.record-of.ensures
+    c.unless_struck.ensures ∙ ap unless_struck c.record_of.ensures
     ∙ sym (ap (finds_by (map said c.args.records.now)) (slice_get-get_or c.args.commands.now c.args.line _ c.if-line-commands.true))
 
 pub returns-else-line-commands : goal.returns-else-line-commands

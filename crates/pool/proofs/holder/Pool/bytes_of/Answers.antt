@@ -7,4 +7,4 @@ use Rattle.pool.proofs.holder.Pool.bytes_of.Goals as goal
 pub returns-else-at-self : goal.returns-else-at-self
 returns-else-at-self c =
     let p = c.args.self.now in
-    record { value = past_last p.store (kept p) (c.args.number - 1) (omega (arith, c.saturating-sub-at.ensures)); short = omega arith }
+    record { value = past_last p.store (kept p) (c.args.number - 1) (omega (arith, c.saturating_sub-at.ensures)); short = omega arith }

@@ -4,5 +4,5 @@ use Rattle.pool.proofs.Places.{used_held}
 use Rattle.pool.proofs.Sounds.{kept}
 use Rattle.pool.proofs.holder.Pool.takes.Goals as goal
 
-pub overflow-add-result : goal.overflow-add-result
-overflow-add-result c = let p = c.args.self.now in let h = p.bytes_fit in let e = used_held p.store (kept p) in search rules
+pub overflow_add-result : goal.overflow_add-result
+overflow_add-result c = let p = c.args.self.now in let h = p.bytes_fit in let e = used_held p.store (kept p) in search rules

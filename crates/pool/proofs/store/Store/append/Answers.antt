@@ -6,8 +6,8 @@ use Rattle.pool.proofs.Places.{inside, count_held, all_bytes}
 use Rattle.pool.proofs.Puts.{fitting, put_fresh, given_fresh}
 use Rattle.pool.proofs.store.Store.append.Goals as goal
 
-pub slice-bounds-copy-from-slice-end : goal.slice-bounds-copy-from-slice-end
-slice-bounds-copy-from-slice-end c = let f = (fitting c.args.self.now c.requires.kept c.args.content.now c.requires.fits).bytes in search rules
+pub slice_bounds-copy_from_slice-end : goal.slice_bounds-copy_from_slice-end
+slice_bounds-copy_from_slice-end c = let f = (fitting c.args.self.now c.requires.kept c.args.content.now c.requires.fits).bytes in search rules
 
 pub bounds-self-at : goal.bounds-self-at
 bounds-self-at c = let f = (fitting c.args.self.now c.requires.kept c.args.content.now c.requires.fits).place in omega arith
@@ -22,8 +22,8 @@ returns c =
     let fit = all_bytes s kept in
     let held_after =
     pieces_added s.bytes.now _ x s.used s.count s.places.now place (inside s kept)
-    (copied_front s.bytes.now c.copy-from-slice.new.self s.used (s.used + length x - s.used) fit)
-    (copied_piece s.bytes.now c.copy-from-slice.new.self x s.used fit c.copy-from-slice.ensures.after) in
+    (copied_front s.bytes.now c.copy_from_slice.new.self s.used (s.used + length x - s.used) fit)
+    (copied_piece s.bytes.now c.copy_from_slice.new.self x s.used fit c.copy_from_slice.ensures.after) in
     record {
       kept =
           record {

@@ -3,11 +3,11 @@ use Rattle.std.proofs.Common.{rules}
 use Rattle.pool.proofs.Places.{within_bytes, read_at, start_held, part_at, short_at}
 use Rattle.pool.proofs.store.Store.at.Goals as goal
 
-pub overflow-add-end : goal.overflow-add-end
-overflow-add-end c = let h = within_bytes c.args.self.now c.requires.kept c.args.at c.requires.within in search rules
+pub overflow_add-end : goal.overflow_add-end
+overflow_add-end c = let h = within_bytes c.args.self.now c.requires.kept c.args.at c.requires.within in search rules
 
-pub slice-bounds-bytes-end : goal.slice-bounds-bytes-end
-slice-bounds-bytes-end c = let h = within_bytes c.args.self.now c.requires.kept c.args.at c.requires.within in search rules
+pub slice_bounds-bytes-end : goal.slice_bounds-bytes-end
+slice_bounds-bytes-end c = let h = within_bytes c.args.self.now c.requires.kept c.args.at c.requires.within in search rules
 
 pub returns : goal.returns
 returns c =

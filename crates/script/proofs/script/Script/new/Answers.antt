@@ -5,5 +5,5 @@ use Rattle.script.proofs.Sounds.{sound_nothing}
 use Rattle.script.proofs.script.Script.new.Goals as goal
 use Rattle.script.specs.Sound.{Sound}
 
-pub invariant-of-result : goal.invariant-of-result
-invariant-of-result c = facts _ (subst Sound (sym c.new.ensures) sound_nothing)
+pub invariant_of-result : goal.invariant_of-result
+invariant_of-result c = facts _ (subst Sound (sym c.new.ensures) sound_nothing)

@@ -8,10 +8,10 @@ pub returns-then-args-arity : goal.returns-then-args-arity
 returns-then-args-arity c =
     few_labels (held c.args.self.now) c.args.kind c.args.args.now (λ e. c.if-args-arity.true (e ∙ sym c.arity.ensures))
 
-pub returns-in-default : goal.returns-in-default
-returns-in-default c =
-    no_files (held c.args.self.now) c.args.kind c.args.args.now (c.if-args-arity.false ∙ c.arity.ensures) c.in-default.ensures
+pub returns-in_default : goal.returns-in_default
+returns-in_default c =
+    no_files (held c.args.self.now) c.args.kind c.args.args.now (c.if-args-arity.false ∙ c.arity.ensures) c.in_default.ensures
 
 pub returns : goal.returns
 returns c =
-    with_files (held c.args.self.now) c.args.kind c.args.args.now c.in-Some.files _ (c.if-args-arity.false ∙ c.arity.ensures) c.in-Some.ensures c.add-command.ensures
+    with_files (held c.args.self.now) c.args.kind c.args.args.now c.in-Some.files _ (c.if-args-arity.false ∙ c.arity.ensures) c.in-Some.ensures c.add_command.ensures

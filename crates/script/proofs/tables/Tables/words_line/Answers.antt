@@ -4,8 +4,8 @@ use Rattle.script.proofs.TextLines.{by_verb, no_words}
 use Rattle.script.proofs.tables.Tables.words_line.Goals as goal
 use Rattle.script.specs.Views.{held}
 
-pub returns-in-default : goal.returns-in-default
-returns-in-default c = no_words (held c.args.self.now) c.args.words.now (omega (arith, ltb-true, ltb-false))
+pub returns-in_default : goal.returns-in_default
+returns-in_default c = no_words (held c.args.self.now) c.args.words.now (omega (arith, ltb-true, ltb-false))
 
 pub returns-in-Comment : goal.returns-in-Comment
 returns-in-Comment c =
@@ -13,12 +13,12 @@ returns-in-Comment c =
 
 pub returns-in-File : goal.returns-in-File
 returns-in-File c =
-    by_verb (held c.args.self.now) c.args.words.now _ _ _ (omega (arith, ltb-true, ltb-false)) (ap Some (sym c.in-File.is) ∙ c.in-Some.ensures) c.file-line.ensures
+    by_verb (held c.args.self.now) c.args.words.now _ _ _ (omega (arith, ltb-true, ltb-false)) (ap Some (sym c.in-File.is) ∙ c.in-Some.ensures) c.file_line.ensures
 
 pub returns-in-Have : goal.returns-in-Have
 returns-in-Have c =
-    by_verb (held c.args.self.now) c.args.words.now _ _ _ (omega (arith, ltb-true, ltb-false)) (ap Some (sym c.in-Have.is) ∙ c.in-Some.ensures) c.have-line.ensures
+    by_verb (held c.args.self.now) c.args.words.now _ _ _ (omega (arith, ltb-true, ltb-false)) (ap Some (sym c.in-Have.is) ∙ c.in-Some.ensures) c.have_line.ensures
 
 pub returns-in-Command : goal.returns-in-Command
 returns-in-Command c =
-    by_verb (held c.args.self.now) c.args.words.now _ _ _ (omega (arith, ltb-true, ltb-false)) (ap Some (sym c.in-Command.is) ∙ c.in-Some.ensures) c.command-line.ensures
+    by_verb (held c.args.self.now) c.args.words.now _ _ _ (omega (arith, ltb-true, ltb-false)) (ap Some (sym c.in-Command.is) ∙ c.in-Some.ensures) c.command_line.ensures
