@@ -12,9 +12,12 @@ all_nth P [] k x a e = let z : ◌≡◌ {A = ℕ} 0 1 = cc in absurd (omega ari
 all_nth P (y ∷ ys) zero x a e = let same : y ≡ x = cc in subst P same a.0
 all_nth P (y ∷ ys) (suc k) x a e = all_nth P ys k x a.1 e
 
--- the invariant of a script, as the check takes it
-pub facts : (m : Meaning) → Sound m → LabelsShort m × (LabelsApart m × (StartsFit m × (ActsFit m × Unit {0})))
-facts m s = (s.short, (s.apart, ((λ k h e. all_nth Starts m.haves k h s.starts e), ((λ k c e. all_nth Acts m.commands k c s.acts e), tt))))
+-- two invariants of a script, as its type states them
+pub starts_fit : (m : Meaning) → Sound m → StartsFit m
+starts_fit m s k h e = all_nth Starts m.haves k h s.starts e
+
+pub acts_fit : (m : Meaning) → Sound m → ActsFit m
+acts_fit m s k c e = all_nth Acts m.commands k c s.acts e
 
 pub have_fits : (m : Meaning) (i : ℕ) (o : Option Have) → StartsFit m → option_map start_of o ≡ slice_get m.haves i → IfSome o (λ h. (h.file < 64) × (length h.content.now ≤ 4096))
 have_fits m i None s e = tt

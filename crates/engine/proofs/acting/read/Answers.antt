@@ -11,17 +11,17 @@ returns-in-Bad g c =
     let p = meant c.args.pool.now in
     record {
       outcome =
-          read_bad c.args.command c.args.line c.args.file c.known-number.result (g.F.FileStore.map c.args.files.now) p (held c.args.entries.now) (held c.note.new.entries) c.as-slice.result.now
-          (c.known-number.ensures ∙ ap (known p) c.tell.ensures) c.in-default.ensures.hazard c.note.ensures.held c.as-slice.ensures c.if-number-eq0.false c.in-Bad.ensures;
+          read_bad c.args.command c.args.line c.args.file c.known-number.result (g.F.FileStore.map c.args.files.now) p (held c.args.entries.now) (held c.note.new.entries) c.as_slice.result.now
+          (c.known-number.ensures ∙ ap (known p) c.tell.ensures) c.in_default.ensures.hazard c.note.ensures.held c.as_slice.ensures c.if-number-eq0.false c.in-Bad.ensures;
       room = c.note.ensures.room;
     }
 
-pub returns-in-default-next-of : goal.returns-in-default-next-of
-returns-in-default-next-of g c =
+pub returns-in_default-next_of : goal.returns-in_default-next_of
+returns-in_default-next_of g c =
     let p = meant c.args.pool.now in
     record {
       outcome =
-          read_goes c.args.command c.args.line c.args.file c.known-number.result (g.F.FileStore.map c.args.files.now) p (held c.args.entries.now) (held c.note.new.entries) c.as-slice.result.now
-          (c.known-number.ensures ∙ ap (known p) c.tell.ensures) c.in-default.ensures.hazard c.note.ensures.held c.as-slice.ensures c.if-number-eq0.false c.next-of.result c.in-default-next-of.not-Bad c.next-of.ensures;
+          read_goes c.args.command c.args.line c.args.file c.known-number.result (g.F.FileStore.map c.args.files.now) p (held c.args.entries.now) (held c.note.new.entries) c.as_slice.result.now
+          (c.known-number.ensures ∙ ap (known p) c.tell.ensures) c.in_default.ensures.hazard c.note.ensures.held c.as_slice.ensures c.if-number-eq0.false c.next_of.result c.in_default-next_of.not-Bad c.next_of.ensures;
       room = c.note.ensures.room;
     }

@@ -5,15 +5,15 @@ use Rattle.engine.specs.Meets.{meets}
 use Rattle.model.proofs.Loops.{found_here, not_here, not_found}
 use Rattle.engine.proofs.hazard.earliest_met.Goals as goal
 
-pub returns-then-does-meet : goal.returns-then-does-meet
-returns-then-does-meet c =
+pub returns-then-does_meet : goal.returns-then-does_meet
+returns-then-does_meet c =
     let t = meets c.args.kind c.args.new in
-    found_here (earliest t) t Some (λ e es. refl) c.args.entries.now c.loop-e.e-index c.loop-e.invariant _ c.loop-e-test.true c.if-does-meet.ensures
+    found_here (earliest t) t Some (λ e es. refl) c.args.entries.now c.loop-e.e-index c.loop-e.invariant _ c.loop-e-test.true c.if-does_meet.ensures
 
 pub loop-e-preserved : goal.loop-e-preserved
 loop-e-preserved c =
     let t = meets c.args.kind c.args.new in
-    not_here (earliest t) t Some (λ e es. refl) c.args.entries.now c.loop-e.e-index c.loop-e.invariant _ c.loop-e-test.true c.if-does-meet.ensures
+    not_here (earliest t) t Some (λ e es. refl) c.args.entries.now c.loop-e.e-index c.loop-e.invariant _ c.loop-e-test.true c.if-does_meet.ensures
 
 pub returns : goal.returns
 returns c =

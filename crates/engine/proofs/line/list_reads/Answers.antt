@@ -5,11 +5,11 @@ use Rattle.engine.proofs.line.list_reads.Goals.{then-is-read, else-is-read}
 
 pub bounds-reads-count : goal.bounds-reads-count
 bounds-reads-count c =
-    has_place c.args.line c.args.entries.now c.loop-e.e-index c.loop-e.reads c.loop-e.count c.loop-e.invariant _ c.loop-e-test.true c.requires c.if-is-read.ensures
+    has_place c.args.line c.args.entries.now c.loop-e.e-index c.loop-e.reads c.loop-e.count c.loop-e.invariant _ c.loop-e-test.true c.requires c.if-is_read.ensures
 
 pub loop-e-preserved : goal.loop-e-preserved
 loop-e-preserved c =
-    elim c.if-is-read.branch [
+    elim c.if-is_read.branch [
       | then-is-read w ↦
           rw (w.reads-is, w.count_is)
           (one_more c.args.line c.args.entries.now c.loop-e.e-index c.loop-e.reads c.loop-e.count c.loop-e.invariant _ c.loop-e-test.true c.requires w.if-is-read.ensures)

@@ -8,11 +8,11 @@ use Rattle.engine.specs.Nexts.{wanted, gather_next}
 use Rattle.engine.proofs.Nexts.{read_none, read_one, read_only, read_two, by_kind, first_read, gather_wanted, some_length}
 use Rattle.engine.proofs.next.next_of.Goals as goal
 
-pub returns-in-default : goal.returns-in-default
-returns-in-default c = first_read c.args.command _ (read_none (meant c.args.pool.now) c.args.line c.args.entries.now c.in-default.ensures)
+pub returns-in_default : goal.returns-in_default
+returns-in_default c = first_read c.args.command _ (read_none (meant c.args.pool.now) c.args.line c.args.entries.now c.in_default.ensures)
 
-pub overflow-sub-count : goal.overflow-sub-count
-overflow-sub-count c = omega (arith, some_length _ _ c.in-Some.ensures, c.count.ensures)
+pub overflow_sub-count : goal.overflow_sub-count
+overflow_sub-count c = omega (arith, some_length _ _ c.in-Some.ensures, c.count.ensures)
 
 pub returns-in-Copy : goal.returns-in-Copy
 returns-in-Copy c =
@@ -31,7 +31,7 @@ returns-in-None c =
 pub returns-in-Gather : goal.returns-in-Gather
 returns-in-Gather c =
     let p = meant c.args.pool.now in
-    ap (wanted p c.args.line c.args.entries.now) (c.gather-next.ensures ∙ ap (λ x. gather_next c.args.command.b (listed x) (c.count.result - 1)) c.bytes.ensures.value)
+    ap (wanted p c.args.line c.args.entries.now) (c.gather_next.ensures ∙ ap (λ x. gather_next c.args.command.b (listed x) (c.count.result - 1)) c.bytes.ensures.value)
     ∙ gather_wanted p c.args.line c.args.entries.now c.args.command _ _ c.in-Gather.is c.in-Some.ensures c.count.ensures
 
 pub returns-in-Some-second-2 : goal.returns-in-Some-second-2

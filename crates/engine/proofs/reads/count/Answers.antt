@@ -6,7 +6,7 @@ use Rattle.engine.proofs.reads.count.Goals.{then-is-read, else-is-read}
 
 pub loop-e-preserved : goal.loop-e-preserved
 loop-e-preserved c =
-    elim c.if-is-read.branch [
+    elim c.if-is_read.branch [
       | then-is-read w ↦
           (let s = ap length (numbers_read c.args.line c.args.entries.now c.loop-e.e-index _ c.loop-e-test.true w.if-is-read.ensures) in
           (omega (arith, w.n-is, c.loop-e.invariant.0), omega (arith, w.n-is)))

@@ -8,11 +8,11 @@ use Rattle.engine.proofs.reads.read_at.Goals.{then-is-read+else-left-eq0, else-i
 
 pub returns-then-left-eq0 : goal.returns-then-left-eq0
 returns-then-left-eq0 c =
-    nth_here _ _ _ c.loop-e.left _ (numbers_read c.args.line c.args.entries.now c.loop-e.e-index _ c.loop-e-test.true c.if-is-read.ensures) c.if-left-eq0.true c.loop-e.invariant
+    nth_here _ _ _ c.loop-e.left _ (numbers_read c.args.line c.args.entries.now c.loop-e.e-index _ c.loop-e-test.true c.if-is_read.ensures) c.if-left-eq0.true c.loop-e.invariant
 
 pub loop-e-preserved : goal.loop-e-preserved
 loop-e-preserved c =
-    elim c.if-is-read.branch [
+    elim c.if-is_read.branch [
       | then-is-read+else-left-eq0 w ↦
           rw w.left-is
           (nth_next _ _ _ c.loop-e.left _ (numbers_read c.args.line c.args.entries.now c.loop-e.e-index _ c.loop-e-test.true w.if-is-read.ensures) w.if-left-eq0.false c.loop-e.invariant)

@@ -23,6 +23,6 @@ returns c =
     let p = meant c.args.pool.now in
     let x = spelled p c.args.line c.args.made.now c.in-Write.text in
     same_from_decides _ _ (slice_eq-Decides Decides-eqb _ _ _ c.eq.ensures) (bytes_eq-Decides _ _)
-    ∙ ap (bytes_eq c.bytes-recorded.result.now) (c.as-slice.ensures ∙ all_fits x (held c.new-out.result) (held c.fill.new.out) (room c.new-out.result) c.if-not-fill.ensures.held c.new-out.ensures.held)
+    ∙ ap (bytes_eq c.bytes-recorded.result.now) (c.as_slice.ensures ∙ all_fits x (held c.new-out.result) (held c.fill.new.out) (room c.new-out.result) c.if-not-fill.ensures.held c.new-out.ensures.held)
     ∙ ap (λ y. bytes_eq y x) c.bytes-recorded.ensures.value
     ∙ made_is p c.args.line c.args.made.now c.args.next c.args.act.file _ _ _ c.in-Write.is c.if-act-file.false

@@ -19,7 +19,7 @@ pub loop-act-preserved : goal.loop-act-preserved
 loop-act-preserved g c =
     let inv = c.loop-act.invariant in (
       λ p. skip_more c.args.line c.args.reads.now c.args.write c.loop-act.act-index (g.F.FileStore.map c.args.files.now) p (held c.loop-act.entries) (held c.note.new.entries) c.entry.result _
-          (inv.0 p) c.note.ensures.held _ c.entry.ensures c.loop-act-test.true c.in-default.ensures.hazard,
+          (inv.0 p) c.note.ensures.held _ c.entry.ensures c.loop-act-test.true c.in_default.ensures.hazard,
       omega (arith, inv.1, ap length c.note.ensures.held, length_push (held c.loop-act.entries) c.entry.result),
       c.note.ensures.room ∙ inv.2,
     )

@@ -23,8 +23,8 @@ returns-then-not-add c =
       room = c.add.ensures.room ∙ inv.1;
     }
 
-pub overflow-add-at : goal.overflow-add-at
-overflow-add-at c = omega (arith, nth_bound (numbers c.args.line c.args.entries.now) c.loop-number.at c.in-Some.number c.in-Some.ensures, numbers_short c.args.line c.args.entries.now)
+pub overflow_add-at : goal.overflow_add-at
+overflow_add-at c = omega (arith, nth_bound (numbers c.args.line c.args.entries.now) c.loop-number.at c.in-Some.number c.in-Some.ensures, numbers_short c.args.line c.args.entries.now)
 
 pub loop-number-smaller : goal.loop-number-smaller
 loop-number-smaller c = omega (arith, nth_bound (numbers c.args.line c.args.entries.now) c.loop-number.at c.in-Some.number c.in-Some.ensures)
@@ -47,7 +47,7 @@ returns c =
     let short : length (held o) ≤ room c.args.out.now = omega (arith, length-take o.len o.items.now, inv.1) in
     record {
       held =
-          gather_done p (numbers c.args.line c.args.entries.now) c.loop-number.at 0 (held o) _ _ inv.0 c.in-default.ensures short
+          gather_done p (numbers c.args.line c.args.entries.now) c.loop-number.at 0 (held o) _ _ inv.0 c.in_default.ensures short
           ∙ ap (λ t. fitting (room c.args.out.now) (held c.args.out.now ++ t)) (left_all p c.args.line c.args.entries.now);
       room = inv.1;
     }

@@ -33,7 +33,7 @@ pub returns : goal.returns
 returns c =
     let xs = map (λ x. x.now) c.args.contents.now in
     let p = meant c.args.pool.now in
-    let none = split_none (coming c.loop-rec.records) c.in-default.ensures.value in
+    let none = split_none (coming c.loop-rec.records) c.in_default.ensures.value in
     record {
       held = ap (λ qs. hints xs p qs (map said (held c.loop-rec.book))) (sym none) ∙ c.loop-rec.invariant.0;
       room = c.loop-rec.invariant.1;

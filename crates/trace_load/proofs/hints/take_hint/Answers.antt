@@ -6,13 +6,13 @@ use Rattle.trace_load.proofs.Taken.{left_out, replaced, appended}
 use Rattle.trace_load.proofs.hints.take_hint.Goals as goal
 use Rattle.trace_load.specs.Takes.{spot}
 
-pub returns-in-default : goal.returns-in-default
-returns-in-default c =
+pub returns-in_default : goal.returns-in_default
+returns-in_default c =
     let q = c.args.rec in
     let xs = held c.args.book.now in
     let e = c.place-of-at.ensures ∙ ap (λ l. spot q.command (map said l)) c.as-slice.ensures in
     record {
-      held = appended q xs c.place-of-at.result e (room c.args.book.now) c.push.result (held c.push.new.self) c.requires c.in-default.ensures c.push.ensures.fits c.push.ensures.held;
+      held = appended q xs c.place-of-at.result e (room c.args.book.now) c.push.result (held c.push.new.self) c.requires c.in_default.ensures c.push.ensures.fits c.push.ensures.held;
       room = c.push.ensures.room;
     }
 

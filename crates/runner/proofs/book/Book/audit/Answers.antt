@@ -12,8 +12,8 @@ use Rattle.runner.proofs.book.Book.audit.Goals as goal
 pub returns-then-is-open : goal.returns-then-is-open
 returns-then-is-open c = λ fs. open_now c.args.at _ _ c.if-is-open.ensures refl
 
-pub returns-in-default : goal.returns-in-default
-returns-in-default c = λ fs. no_record c.args.at _ _ c.if-is-open.ensures (held c.args.self.now.list) refl c.in-default.ensures refl
+pub returns-in_default : goal.returns-in_default
+returns-in_default c = λ fs. no_record c.args.at _ _ c.if-is-open.ensures (held c.args.self.now.list) refl c.in_default.ensures refl
 
 pub returns : goal.returns
 returns c = λ fs.

@@ -18,7 +18,7 @@ returns-then-len-places c =
     let b = c.args.self.now in
     let h : length (held b.list) < places b = omega arith in
     record {
-      records = kept_last c.args.commands.now (places b) c.args.own (held b.list) (held c.push.new.self) c.push.result (room b.list) c.in-default.ensures h (omega arith) c.push.ensures.fits c.push.ensures.held;
+      records = kept_last c.args.commands.now (places b) c.args.own (held b.list) (held c.push.new.self) c.push.result (room b.list) c.in_default.ensures h (omega arith) c.push.ensures.fits c.push.ensures.held;
       places = c.push.ensures.room;
     }
 
@@ -27,15 +27,15 @@ returns-in-Some-free-place c =
     let b = c.args.self.now in
     let h : places b ≤ length (held b.list) = omega arith in
     record {
-      records = kept_freed c.args.commands.now (places b) c.args.own (held b.list) (held c.replace-in-Some-free-place.new.self) c.replace-in-Some-free-place.result c.in-Some-free-place.at c.in-default.ensures h c.in-Some-free-place.ensures c.replace-in-Some-free-place.ensures.fits c.replace-in-Some-free-place.ensures.held;
+      records = kept_freed c.args.commands.now (places b) c.args.own (held b.list) (held c.replace-in-Some-free-place.new.self) c.replace-in-Some-free-place.result c.in-Some-free-place.at c.in_default.ensures h c.in-Some-free-place.ensures c.replace-in-Some-free-place.ensures.fits c.replace-in-Some-free-place.ensures.held;
       places = c.replace-in-Some-free-place.ensures.room;
     }
 
-pub returns-in-default-free-place : goal.returns-in-default-free-place
-returns-in-default-free-place c =
+pub returns-in_default-free-place : goal.returns-in_default-free-place
+returns-in_default-free-place c =
     let b = c.args.self.now in
     let h : places b ≤ length (held b.list) = omega arith in
     record {
-      records = kept_out c.args.commands.now (places b) c.args.own (held b.list) c.in-default.ensures h c.in-default-free-place.ensures;
+      records = kept_out c.args.commands.now (places b) c.args.own (held b.list) c.in_default.ensures h c.in_default-free-place.ensures;
       places = refl;
     }

@@ -17,8 +17,8 @@ skip-stop-requires g c =
     skip_room c.args.self.now c.args.line c.requires.left (g.F.FileStore.map c.args.files.now) (meant c.args.pool.now) (records c.args.book.now) (places c.args.book.now)
     (said c.in-Some.record) c.in-Some.ensures c.reads.result.now c.reads.ensures.few c.requires.kept
 
-pub returns-in-default : goal.returns-in-default
-returns-in-default g c =
+pub returns-in_default : goal.returns-in_default
+returns-in_default g c =
     let i = c.args.self.now in
     let l = c.args.line in
     let m = c.requires.left in
@@ -29,7 +29,7 @@ returns-in-default g c =
     let y = c.act-stop.result in
     let s = state (g.F.FileStore.map c.act-stop.new.files) c.act-stop.new.pool c.act-stop.new.entries in
     let j = c.turn.new.self in
-    let works = act_works i l m fs p rs n _ y s c.act-stop.ensures.outcome c.in-default.ensures in
+    let works = act_works i l m fs p rs n _ y s c.act-stop.ensures.outcome c.in_default.ensures in
     let grown = act_leaves i l m fs p rs n _ y s c.act-stop.ensures.outcome c.requires.kept in
     let same = ap held c.turn.ensures.entries in
     let rooms = ap room c.turn.ensures.entries ∙ c.act-stop.ensures.room in
@@ -37,7 +37,7 @@ returns-in-default g c =
     record {
       kept = kept_again i l m c.requires.kept y s j same rooms c.turn.ensures.lines noted grown;
       line = refl;
-      skipped = ap skipping c.in-default.ensures;
+      skipped = ap skipping c.in_default.ensures;
       stop = stops_as i l m fs p rs n y s works;
       world = world_after i l m fs p rs n y s works j same rooms (c.turn.ensures.opened ∙ c.requires.opened) noted;
     }

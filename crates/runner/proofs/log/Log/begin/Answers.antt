@@ -11,4 +11,4 @@ returns-in-Some g c = blank _ c.commands-commands.result.now c.commands-commands
 pub returns : goal.returns
 returns g c =
     let b = c.args.book.now in
-    live _ c.commands-commands.result.now c.commands-commands.ensures.value _ _ _ c.live.ensures c.in-default.ensures c.commands-commands.ensures.few (c.open.ensures (meant c.args.pool.now) (records b) (places b) c.count.ensures.value)
+    live _ c.commands-commands.result.now c.commands-commands.ensures.value _ _ _ c.live.ensures c.in_default.ensures c.commands-commands.ensures.few (c.open.ensures (meant c.args.pool.now) (records b) (places b) c.count.ensures.value)

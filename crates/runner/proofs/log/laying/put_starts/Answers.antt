@@ -11,23 +11,23 @@ use Rattle.runner.proofs.log.laying.put_starts.Goals as goal
 pub loop-i-init : goal.loop-i-init
 loop-i-init g c = left_none _ _ _
 
-pub returns-in-default : goal.returns-in-default
-returns-in-default g c = absurd (none_past _ _ _ _ _ c.loop-i.i c.loop-i.invariant c.in-default.ensures.value (omega (arith, c.haves-haves.ensures.value)))
+pub returns-in_default : goal.returns-in_default
+returns-in_default g c = absurd (none_past _ _ _ _ _ c.loop-i.i c.loop-i.invariant c.in_default.ensures.value (omega (arith, c.haves-haves.ensures.value)))
 
-pub returns-in-default-put : goal.returns-in-default-put
-returns-in-default-put g c =
+pub returns-in_default-put : goal.returns-in_default-put
+returns-in_default-put g c =
     let hs = (meaning c.args.script.now).haves in
     let fs = g.F.FileStore.map c.args.files.now in
     let p = meant c.args.pool.now in
     let h = start_of c.in-Some.have in
     let at = c.in-Some.ensures.value in
     let lt : c.loop-i.i < length hs = omega (arith, c.haves-haves.ensures.value) in
-    let put = c.in-default-put.ensures in
+    let put = c.in_default-put.ensures in
     let none = left_refused hs fs _ p _ c.loop-i.i c.loop-i.invariant h at lt (sym put.number) in
     let pool = pool_back hs fs _ p _ c.loop-i.i c.loop-i.invariant h at lt c.count-count.result (meant c.put.new.self) (meant c.cut.new.self) c.count-count.ensures.value put.after c.cut.ensures in
     record {
       value = ap lay_told (sym none);
-      files = c.copy-all-in-default-put.ensures ∙ c.copy-all.ensures ∙ ap (λ o. files_laid o fs) (sym none);
+      files = c.copy-all-in_default-put.ensures ∙ c.copy-all.ensures ∙ ap (λ o. files_laid o fs) (sym none);
       pool = pool ∙ ap (λ o. pool_laid o p) (sym none);
     }
 

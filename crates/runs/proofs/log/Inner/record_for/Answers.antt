@@ -11,10 +11,10 @@ returns-then-not-is-waiting g c =
     not_waiting c.args.self.now c.args.line c.requires.left (g.F.FileStore.map c.args.files.now) (meant c.args.pool.now) (records c.args.book.now) (places c.args.book.now) c.requires.kept _
     c.if-not-is-waiting.ensures
 
-pub returns-in-default : goal.returns-in-default
-returns-in-default g c =
+pub returns-in_default : goal.returns-in_default
+returns-in_default g c =
     not_found c.args.self.now c.args.line c.requires.left (g.F.FileStore.map c.args.files.now) (meant c.args.pool.now) (records c.args.book.now) (places c.args.book.now) c.requires.kept _
-    _ c.if-not-is-waiting.ensures c.in-default.ensures
+    _ c.if-not-is-waiting.ensures c.in_default.ensures
 
 pub returns-then-not-is-own : goal.returns-then-not-is-own
 returns-then-not-is-own g c =

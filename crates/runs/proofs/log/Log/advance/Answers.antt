@@ -7,14 +7,14 @@ use Rattle.runs.specs.Views.{world}
 use Rattle.runs.proofs.Asks.{refused, worked}
 use Rattle.runs.proofs.log.Log.advance.Goals as goal
 
-pub returns-in-default-lowest : goal.returns-in-default-lowest
-returns-in-default-lowest g c =
+pub returns-in_default-lowest : goal.returns-in_default-lowest
+returns-in_default-lowest g c =
     let w = world (g.F.FileStore.map c.args.files.now) (meant c.args.pool.now) c.args.self.now c.args.book.now in
     let m = g.P.Policy.patience c.args.policy.now in
     let n = g.P.Policy.passes c.args.policy.now in
     let a : Asked = record { patience = m; before = n; after = n } in
     record {
-      did = refused w (has c.left-left.result) c.left-left.ensures (sym c.if-not-is-open.ensures) (sym c.in-default.ensures) a c.in-default-lowest.ensures (refl {a = n});
+      did = refused w (has c.left-left.result) c.left-left.ensures (sym c.if-not-is-open.ensures) (sym c.in_default.ensures) a c.in_default-lowest.ensures (refl {a = n});
       same = refl {a = m};
     }
 
@@ -24,6 +24,6 @@ returns g c =
     let v = world (g.F.FileStore.map c.work.new.files) (meant c.work.new.pool) c.work.new.self c.args.book.now in
     let a : Asked = record { patience = g.P.Policy.patience c.args.policy.now; before = g.P.Policy.passes c.args.policy.now; after = g.P.Policy.passes c.ask-line.new.self } in
     record {
-      did = worked w (has c.left-left.result) c.left-left.ensures (sym c.if-not-is-open.ensures) (sym c.in-default.ensures) a c.in-Some-lowest.front c.ask-line.result c.work.result v c.in-Some-lowest.ensures c.ask-line.ensures.answers c.work.ensures.line c.work.ensures.skipped c.work.ensures.stop c.work.ensures.world;
+      did = worked w (has c.left-left.result) c.left-left.ensures (sym c.if-not-is-open.ensures) (sym c.in_default.ensures) a c.in-Some-lowest.front c.ask-line.result c.work.result v c.in-Some-lowest.ensures c.ask-line.ensures.answers c.work.ensures.line c.work.ensures.skipped c.work.ensures.stop c.work.ensures.world;
       same = c.ask-line.ensures.same;
     }

@@ -8,8 +8,8 @@ use Rattle.script.specs.Views.{held}
 pub returns-in_default : goal.returns-in_default
 returns-in_default c = two_other c.args.args.now _ (omega (arith, ltb-true, ltb-false))
 
-pub returns-in_default·2 : goal.returns-in_default·2
-returns-in_default·2 c = two_other c.args.args.now _ (omega (arith, ltb-true, ltb-false))
+pub returns-in_default-2 : goal.returns-in_default-2
+returns-in_default-2 c = two_other c.args.args.now _ (omega (arith, ltb-true, ltb-false))
 
 pub returns-in_default-file_of : goal.returns-in_default-file_of
 returns-in_default-file_of c =

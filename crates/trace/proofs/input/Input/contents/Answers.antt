@@ -10,39 +10,39 @@ use Rattle.trace.specs.Told.{left, listed}
 use Rattle.trace.specs.Format.{a_content, push}
 
 pub loop-i-init : goal.loop-i-init
-loop-i-init c = (rest_none c.in-ok-count.count [] (left c.count.new.self), refl)
+loop-i-init c = (rest_none c.in_ok-count.count [] (left c.count.new.self), refl)
 
-pub returns-in-err-list : goal.returns-in-err-list
-returns-in-err-list c =
+pub returns-in_err-list : goal.returns-in_err-list
+returns-in_err-list c =
     let l = c.loop-i in
-    let n = c.in-ok-count.count in
+    let n = c.in_ok-count.count in
     let s = c.count.new.self in
-    let stop = rest_stop (many a_content push n [] (left s)) n l.list l.i (left l.self) l.invariant.0 c.loop-i-test.true c.in-err-list.field-0.0 c.in-err-list.ensures in
-    let begins = section_begins n (left c.args.self.now) (left s) c.in-ok-count.ensures.value in
+    let stop = rest_stop (many a_content push n [] (left s)) n l.list l.i (left l.self) l.invariant.0 c.loop-i-test.true c.in_err-list.field-0.0 c.in_err-list.ensures in
+    let begins = section_begins n (left c.args.self.now) (left s) c.in_ok-count.ensures.value in
     record {
-      count = IfOk-from_err _ _ c.from-residual-in-err-list.ensures.0;
-      value = break_told listed _ _ c.in-err-list.field-0.0 _ c.from-residual-in-err-list.ensures.1 (stop ∙ begins);
+      count = IfOk-from_err _ _ c.from_residual-in_err-list.ensures.0;
+      value = break_told listed _ _ c.in_err-list.field-0.0 _ c.from_residual-in_err-list.ensures.1 (stop ∙ begins);
     }
 
 pub loop-i-preserved : goal.loop-i-preserved
 loop-i-preserved c =
     let l = c.loop-i in
-    let n = c.in-ok-count.count in
+    let n = c.in_ok-count.count in
     let long = l.invariant.1 in
-    let few = c.in-ok-count.ensures.within in (
+    let few = c.in_ok-count.ensures.within in (
       rest_more (many a_content push n [] (left c.count.new.self)) n l.list l.i (left l.self) l.invariant.0 c.loop-i-test.true
-          c.in-ok-list.field-0 (left c.content.new.self) (omega arith) c.in-ok-list.ensures,
-      length-set l.list l.i c.in-ok-list.field-0 ∙ long,
+          c.in_ok-list.field-0 (left c.content.new.self) (omega arith) c.in_ok-list.ensures,
+      length-set l.list l.i c.in_ok-list.field-0 ∙ long,
     )
 
 pub returns : goal.returns
 returns c =
     let l = c.loop-i in
-    let n = c.in-ok-count.count in
+    let n = c.in_ok-count.count in
     let s = c.count.new.self in
     record {
-      count = let few = c.in-ok-count.ensures.within in let long = l.invariant.1 in length-map (take n l.list) (λ x. x.now) ∙ length-take-le n l.list (omega arith);
+      count = let few = c.in_ok-count.ensures.within in let long = l.invariant.1 in length-map (take n l.list) (λ x. x.now) ∙ length-take-le n l.list (omega arith);
       value =
           rest_all (many a_content push n [] (left s)) n l.list l.i (left l.self) l.invariant.0 c.loop-i-test.false l.auto.i-end
-          ∙ section_begins n (left c.args.self.now) (left s) c.in-ok-count.ensures.value;
+          ∙ section_begins n (left c.args.self.now) (left s) c.in_ok-count.ensures.value;
     }

@@ -7,4 +7,4 @@ use Rattle.trace.specs.Reads.{read}
 pub returns : goal.returns
 returns c =
     let bs = c.args.self.now.rest.now in
-    ap (λ n. read n (take (length bs - 2) (drop 2 bs))) c.from-be-bytes.ensures ∙ one_number bs (omega (arith, ltb-true, ltb-false))
+    ap (λ n. read n (take (length bs - 2) (drop 2 bs))) c.from_be_bytes.ensures ∙ one_number bs (omega (arith, ltb-true, ltb-false))

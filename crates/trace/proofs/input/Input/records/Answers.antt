@@ -9,27 +9,27 @@ use Rattle.trace.specs.Told.{left, gathered, high_of, shown}
 pub loop-i-init : goal.loop-i-init
 loop-i-init c = rest_none c.args.contents c.args.count _ (left c.args.self.now) refl
 
-pub returns-in-err-next : goal.returns-in-err-next
-returns-in-err-next c =
+pub returns-in_err-next : goal.returns-in_err-next
+returns-in_err-next c =
     let l = c.loop-i in
     let m = c.args.contents in
     let n = c.args.count in
-    let e = c.in-err-next.field-0.0 in
+    let e = c.in_err-next.field-0.0 in
     let answer = gathered high_of (all_records m n (left c.args.self.now)) in
-    break_told (λ x. x) _ _ e _ c.from-residual.ensures.1
-    (rest_stop answer m n l.commands l.high l.i (left l.self) l.invariant c.loop-i-test.true e c.in-err-next.ensures.value)
+    break_told (λ x. x) _ _ e _ c.from_residual.ensures.1
+    (rest_stop answer m n l.commands l.high l.i (left l.self) l.invariant c.loop-i-test.true e c.in_err-next.ensures.value)
 
 pub loop-i-preserved : goal.loop-i-preserved
 loop-i-preserved c =
     let l = c.loop-i in
     let m = c.args.contents in
     let n = c.args.count in
-    let next = c.in-ok-next.next in
+    let next = c.in_ok-next.next in
     let answer = gathered high_of (all_records m n (left c.args.self.now)) in
     let long = l.invariant.long in
     rest_more answer m n l.commands l.high l.i (left l.self) l.invariant c.loop-i-test.true
-    (shown next) (left c.record.new.self) next.high (omega arith) c.in-ok-next.ensures.high
-    c.in-ok-next.ensures.value
+    (shown next) (left c.record.new.self) next.high (omega arith) c.in_ok-next.ensures.high
+    c.in_ok-next.ensures.value
 
 pub returns : goal.returns
 returns c =

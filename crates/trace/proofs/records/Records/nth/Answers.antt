@@ -7,10 +7,10 @@ use Rattle.trace.proofs.Nths.{nth_others, nth_first, nth_none}
 use Rattle.trace.proofs.records.Records.nth.Goals as goal
 use Rattle.trace.specs.Told.{coming}
 
-pub returns-in-err-next : goal.returns-in-err-next
-returns-in-err-next c =
-    ap (option_map said) c.from-residual.ensures
-    ∙ sym (c.loop.invariant ∙ nth_none (coming c.loop.self) (c.args.at - c.loop.counter) (sym c.in-err-next.ensures.value))
+pub returns-in_err-next : goal.returns-in_err-next
+returns-in_err-next c =
+    ap (option_map said) c.from_residual.ensures
+    ∙ sym (c.loop.invariant ∙ nth_none (coming c.loop.self) (c.args.at - c.loop.counter) (sym c.in_err-next.ensures.value))
 
 pub loop-preserved : goal.loop-preserved
 loop-preserved c =
