@@ -4,7 +4,7 @@ use Rattle.engine.specs.Reads.{numbers}
 use Rattle.std.proofs.Common.{◌≡◌, sym, ap, ◌∙◌}
 use Rattle.engine.proofs.Loops.{numbers_read, numbers_pass, numbers_end, nth_here, nth_next, nth_same}
 use Rattle.engine.proofs.reads.read_at.Goals as goal
-use Rattle.engine.proofs.reads.read_at.Goals.{then-is-read+else-left-eq0, else-is-read}
+use Rattle.engine.proofs.reads.read_at.Goals.{then-is_read+else-left-eq0, else-is_read}
 
 pub returns-then-left-eq0 : goal.returns-then-left-eq0
 returns-then-left-eq0 c =
@@ -13,12 +13,12 @@ returns-then-left-eq0 c =
 pub loop-e-preserved : goal.loop-e-preserved
 loop-e-preserved c =
     elim c.if-is_read.branch [
-      | then-is-read+else-left-eq0 w ↦
+      | then-is_read+else-left-eq0 w ↦
           rw w.left-is
-          (nth_next _ _ _ c.loop-e.left _ (numbers_read c.args.line c.args.entries.now c.loop-e.e-index _ c.loop-e-test.true w.if-is-read.ensures) w.if-left-eq0.false c.loop-e.invariant)
-      | else-is-read w ↦
+          (nth_next _ _ _ c.loop-e.left _ (numbers_read c.args.line c.args.entries.now c.loop-e.e-index _ c.loop-e-test.true w.if-is_read.ensures) w.if-left-eq0.false c.loop-e.invariant)
+      | else-is_read w ↦
           rw w.left-is
-          (nth_same _ _ c.loop-e.left _ (numbers_pass c.args.line c.args.entries.now c.loop-e.e-index _ c.loop-e-test.true w.if-is-read.ensures) c.loop-e.invariant)
+          (nth_same _ _ c.loop-e.left _ (numbers_pass c.args.line c.args.entries.now c.loop-e.e-index _ c.loop-e-test.true w.if-is_read.ensures) c.loop-e.invariant)
     ]
 
 pub returns : goal.returns

@@ -1,8 +1,6 @@
 -- The bytes of the text are those of the recorded content.
 use Rattle.std.proofs.Common.{◌≡◌, sym, refl, ap, ◌∙◌, arith}
 use Rattle.std.specs.Str.{bytes_eq}
-use Rattle.std.proofs.lemmas.Slice.Eq.{slice_eq-Decides, bytes_eq-Decides}
-use Rattle.std.proofs.lemmas.Bool.Decides.{same_from_decides, Decides-eqb}
 use Rattle.lists.specs.Held.{held, room}
 use Rattle.pool.specs.Contents.{meant}
 use Rattle.model.specs.Contents.{content}
@@ -22,7 +20,7 @@ pub returns : goal.returns
 returns c =
     let p = meant c.args.pool.now in
     let x = spelled p c.args.line c.args.made.now c.in-Write.text in
-    same_from_decides _ _ (slice_eq-Decides Decides-eqb _ _ _ c.eq.ensures) (bytes_eq-Decides _ _)
+    c.eq.ensures
     ∙ ap (bytes_eq c.bytes-recorded.result.now) (c.as_slice.ensures ∙ all_fits x (held c.new-out.result) (held c.fill.new.out) (room c.new-out.result) c.if-not-fill.ensures.held c.new-out.ensures.held)
     ∙ ap (λ y. bytes_eq y x) c.bytes-recorded.ensures.value
     ∙ made_is p c.args.line c.args.made.now c.args.next c.args.act.file _ _ _ c.in-Write.is c.if-act-file.false

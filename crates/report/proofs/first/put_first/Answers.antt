@@ -25,10 +25,10 @@ pub returns : goal.returns
 returns c =
     let head : Words c.args.outcome c.args.out.now c.match-outcome.end c.match-outcome.out =
     elim c.match-outcome.branch [
-      | in-Ok w ↦ let put = w.put-kept-end.ensures in met w.in-Ok.is w.out-is w.end-is put.bytes put.end put.short
-      | in-Err w ↦ let put = w.put-not-kept-end.ensures in met w.in-Err.is w.out-is w.end-is put.bytes put.end put.short
+      | in-Ok w ↦ let put = w.put_kept-end.ensures in met w.in-Ok.is w.out-is w.end-is put.bytes put.end put.short
+      | in-Err w ↦ let put = w.put_not_kept-end.ensures in met w.in-Err.is w.out-is w.end-is put.bytes put.end put.short
     ] in
-    let put = c.put-byte.ensures in
+    let put = c.put_byte.ensures in
     let all = then head.words (wrote c.match-outcome.end (10 ∷ []) c.match-outcome.out put.bytes put.end) in
     let z = all.end_is in
     record { bytes = all.bytes; end = omega arith; short = omega arith }

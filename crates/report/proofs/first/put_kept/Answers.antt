@@ -4,14 +4,14 @@ use Rattle.report.specs.Report.{then_number}
 use Rattle.report.proofs.Writes.{wrote, then, three_digits}
 use Rattle.report.proofs.first.put_kept.Goals as goal
 
-pub put-number-second-requires : goal.put-number-second-requires
-put-number-second-requires c = let e = three_digits c.args.built.executed (omega arith) in omega arith
+pub put_number-second-requires : goal.put_number-second-requires
+put_number-second-requires c = let e = three_digits c.args.built.executed (omega arith) in omega arith
 
 pub put-third-requires : goal.put-third-requires
 put-third-requires c = let e = three_digits c.args.built.executed (omega arith) in omega arith
 
-pub put-number-requires : goal.put-number-requires
-put-number-requires c =
+pub put_number-requires : goal.put_number-requires
+put_number-requires c =
     let e = three_digits c.args.built.executed (omega arith) in
     let s = three_digits c.args.built.skipped (omega arith) in
     omega arith
@@ -22,12 +22,12 @@ returns c =
     let e = three_digits built.executed (omega arith) in
     let s = three_digits built.skipped (omega arith) in
     let first = c.put-first.ensures in
-    let second = c.put-number-second.ensures in
+    let second = c.put_number-second.ensures in
     let third = c.put-third.ensures in
-    let fourth = c.put-number.ensures in
+    let fourth = c.put_number.ensures in
     let one = wrote 0 (codes "kept executed") c.args.out.now first.bytes first.end in
     let two = wrote c.put-first.result (then_number built.executed) c.put-first.new.out second.bytes second.end in
-    let three = wrote c.put-number-second.result (codes " skipped") c.put-number-second.new.out third.bytes third.end in
+    let three = wrote c.put_number-second.result (codes " skipped") c.put_number-second.new.out third.bytes third.end in
     let four = wrote c.put-third.result (then_number built.skipped) c.put-third.new.out fourth.bytes fourth.end in
     let all = then (then (then one two) three) four in
     let z = all.end_is in

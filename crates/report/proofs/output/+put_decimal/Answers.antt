@@ -17,8 +17,8 @@ returns-then-n-lt10 t c =
     let w = as_bytes (decimal n) (sym (decimal_digit n (omega arith))) (wrote c.args.at ((48 + n) ∷ []) c.args.out.now a.bytes a.end) in
     record { bytes = w.bytes; end = w.end-is }
 
-pub put-decimal-next-requires : goal.put-decimal-next-requires
-put-decimal-next-requires t c =
+pub put_decimal-next-requires : goal.put_decimal-next-requires
+put_decimal-next-requires t c =
     let n = c.args.n in
     let e = ap length (decimal_step n (omega arith) (omega arith)) ∙ length-append (decimal (n / 10)) ((48 + n % 10) ∷ []) in
     omega arith
@@ -32,9 +32,9 @@ put-byte-requires-2 t c =
 pub returns : goal.returns
 returns t c =
     let n = c.args.n in
-    let a = c.put-decimal-next.ensures in
+    let a = c.put_decimal-next.ensures in
     let b = c.put-byte-2.ensures in
     let front = wrote c.args.at (decimal (n / 10)) c.args.out.now a.bytes a.end in
-    let last = wrote c.put-decimal-next.result ((48 + n % 10) ∷ []) c.put-decimal-next.new.out b.bytes b.end in
+    let last = wrote c.put_decimal-next.result ((48 + n % 10) ∷ []) c.put_decimal-next.new.out b.bytes b.end in
     let w = as_bytes (decimal n) (sym (decimal_step n (omega arith) (omega arith))) (then front last) in
     record { bytes = w.bytes; end = w.end-is }

@@ -9,9 +9,9 @@ loop-b-preserved c =
     let bytes = c.args.bytes.now in
     let i = c.loop-b.b-index in
     let left = drop (i + 1) bytes in
-    let put = c.put-byte-end.ensures in
+    let put = c.put_byte-end.ensures in
     let inv = c.loop-b.invariant in (
-      ap (λ k. laid k left c.put-byte-end.new.out) put.end
+      ap (λ k. laid k left c.put_byte-end.new.out) put.end
           ∙ ap (laid (c.loop-b.end + 1) left) put.bytes
           ∙ sym (at_drop_more (λ r. laid c.loop-b.end r c.loop-b.out) bytes i 0 c.loop-b-test.true)
           ∙ inv.0,

@@ -35,9 +35,9 @@ loop-file-preserved g c =
     let rest = file_lines labels pool (file + 1) (drop (file + 1) numbers) in
     let more = lines_more labels pool numbers file (omega arith) in
     let size = ap length more ∙ length-append line rest in
-    let put = c.put-file-line-end.ensures in
+    let put = c.put_file_line-end.ensures in
     let inv = c.loop-file.invariant in (
-      left_to_write at c.put-file-line-end.result line rest before c.put-file-line-end.new.out put.bytes put.end
+      left_to_write at c.put_file_line-end.result line rest before c.put_file_line-end.new.out put.bytes put.end
           ∙ ap (λ xs. laid at xs before) (sym more)
           ∙ inv.0,
       omega arith,
@@ -57,12 +57,12 @@ returns g c =
     let whole = report_bytes c.args.outcome labels pool numbers in
     let file = c.loop-file.file in
     let end = c.loop-file.end in
-    let put = c.put-first-end.ensures in
+    let put = c.put_first-end.ensures in
     let inv = c.loop-file.invariant in
     let none = at_drop_all (λ left. laid end (file_lines labels pool file left) c.loop-file.out) numbers file (omega arith) in
     let size = ap length (at_drop_all (file_lines labels pool file) numbers file (omega arith)) in
     let sum = length-append head files in
-    let bytes = sym none ∙ inv.0 ∙ left_to_write 0 c.put-first-end.result head files buffer c.put-first-end.new.out put.bytes (omega arith) in
+    let bytes = sym none ∙ inv.0 ∙ left_to_write 0 c.put_first-end.result head files buffer c.put_first-end.new.out put.bytes (omega arith) in
     let all : end ≡ length whole = omega arith in
     record {
       answer = cond_above (length buffer) 2048 (Err ReportBufferShort) (Ok (length whole)) (Ok end) c.if-out-lt-LEAST.false (ap Ok all);

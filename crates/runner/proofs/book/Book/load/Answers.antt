@@ -16,7 +16,7 @@ returns c =
     let loaded = c.load-file.ensures in
     let bs = c.args.bytes.now in
     let b = c.args.self.now in
-    let typed : Bytes bs = All-from_get_or (λ b. b < 256) bs 0 (λ i h. omega (arith, c.type-inv.bytes i)) in
+    let typed : Bytes bs = All-from_get_or (λ b. b < 256) bs 0 (λ i h. omega (arith, c.type_inv.bytes i)) in
     record {
       promise = λ fs. taken _ c.load-file.result fs _ _ c.args.log.now.inner _ _ _ _ c.if-is-open.ensures loaded.room loaded.loaded;
       trip = λ ok empty none. round_trip bs c.load-file.result _ _ typed (loaded.loaded (world_of [] (meant c.args.pool.now) c.args.log.now.inner (records b) (places b)) refl) ok empty none;

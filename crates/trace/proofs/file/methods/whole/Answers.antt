@@ -8,5 +8,5 @@ use Rattle.trace.specs.Laws.{Bytes}
 pub returns : goal.returns
 returns c =
     let bs = c.args.bytes.now in
-    let ok : Bytes bs = All-from_get_or (λ b. b < 256) bs 0 (λ i h. omega (arith, c.type-inv.bytes i)) in
+    let ok : Bytes bs = All-from_get_or (λ b. b < 256) bs 0 (λ i h. omega (arith, c.type_inv.bytes i)) in
     record { value = c.trace.ensures; lawful = made_lawful c.trace.result bs ok c.trace.ensures; written = made_written c.trace.result bs ok c.trace.ensures }

@@ -21,10 +21,10 @@ loop-r-preserved c =
     let rs = c.args.records.now in
     elim c.if-taken.branch [
       | then-taken w ↦
-          rest_same p rs _ _ _ _ _ w.list-is w.count_is
+          rest_same p rs _ _ _ _ _ w.list-is w.count-is
           (rest_take p rs l.list l.r-index l.count l.invariant _ c.loop-r-test.true (sym w.if-taken.true ∙ c.is-chosen-taken.ensures))
       | else-taken w ↦
-          rest_same p rs _ _ _ _ _ w.list-is w.count_is
+          rest_same p rs _ _ _ _ _ w.list-is w.count-is
           (rest_skip p rs l.list l.r-index l.count l.invariant _ c.loop-r-test.true (sym w.if-taken.false ∙ c.is-chosen-taken.ensures))
     ]
 
