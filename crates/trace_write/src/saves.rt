@@ -1,5 +1,5 @@
-mod lists;
 mod pieces;
+mod sections;
 mod sizes;
 mod whole;
 

@@ -7,8 +7,8 @@ ghost use Rattle.trace_write.specs.Saves.{traced, to_save};
 
 use crate::chosen::choose;
 use crate::order::order_of;
-use crate::saves::lists::{put_contents, put_records};
 use crate::saves::pieces::put_number;
+use crate::saves::sections::{put_contents, put_records};
 use crate::saves::sizes::{contents_size, records_size};
 use model::{Record, Refusal};
 use pool::Pool;

@@ -21,4 +21,4 @@ returns-in-TooLong c =
     ] in
     let put = c.put_number.ensures in
     let w = as_bytes (where_stopped line c.args.stop.fault) (sym told) (wrote c.args.at (then_number line) c.args.out.now put.bytes put.end) in
-    record { bytes = w.bytes; end = w.end-is; short = omega arith }
+    record { bytes = w.bytes; end = w.end_is; short = omega arith }

@@ -8,14 +8,14 @@ use Rattle.trace.specs.Told.{coming}
 use Rattle.trace_load.proofs.Taken.{split_none, hint_fits, hint_next}
 use Rattle.trace_load.proofs.hints.take_all.Goals as goal
 
-pub take-hint-requires : goal.take-hint-requires
-take-hint-requires c =
+pub take_hint-requires : goal.take_hint-requires
+take_hint-requires c =
     let xs = map (λ x. x.now) c.args.contents.now in
     let p = meant c.args.pool.now in
     let a = c.in-Some.ensures in
     let b = c.loop-rec.invariant.1 in
     let l = ap length c.loop-rec.invariant.0 in
-    hint_fits xs p (said c.in-Some.rec) (coming c.loop-rec.records) (map said (held c.loop-rec.book)) a.value (said c.as-hint.result) (room c.loop-rec.book) c.as-hint.ensures
+    hint_fits xs p (said c.in-Some.rec) (coming c.loop-rec.records) (map said (held c.loop-rec.book)) a.value (said c.as_hint.result) (room c.loop-rec.book) c.as_hint.ensures
     (omega (arith, c.requires))
 
 pub loop-rec-preserved : goal.loop-rec-preserved
@@ -23,10 +23,10 @@ loop-rec-preserved c =
     let xs = map (λ x. x.now) c.args.contents.now in
     let p = meant c.args.pool.now in
     let a = c.in-Some.ensures in (
-      hint_next xs p (said c.in-Some.rec) (coming c.loop-rec.records) (map said (held c.loop-rec.book)) a.value (said c.as-hint.result) (coming c.next.new.self)
-          (map said (held c.take-hint.new.book)) c.as-hint.ensures a.after c.take-hint.ensures.held
+      hint_next xs p (said c.in-Some.rec) (coming c.loop-rec.records) (map said (held c.loop-rec.book)) a.value (said c.as_hint.result) (coming c.next.new.self)
+          (map said (held c.take_hint.new.book)) c.as_hint.ensures a.after c.take_hint.ensures.held
           ∙ c.loop-rec.invariant.0,
-      c.take-hint.ensures.room ∙ c.loop-rec.invariant.1,
+      c.take_hint.ensures.room ∙ c.loop-rec.invariant.1,
     )
 
 pub returns : goal.returns

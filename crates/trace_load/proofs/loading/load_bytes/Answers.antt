@@ -9,24 +9,24 @@ use Rattle.trace.specs.Told as told
 use Rattle.trace_load.proofs.Loads.{refused, pool_full, book_full, all_taken}
 use Rattle.trace_load.proofs.loading.load_bytes.Goals as goal
 
-pub returns-in-err-put-contents : goal.returns-in-err-put-contents
-returns-in-err-put-contents c =
+pub returns-in_err-put_contents : goal.returns-in_err-put_contents
+returns-in_err-put_contents c =
     let b = c.args.book.now in
-    let r = c.from-residual-in-err-put-contents in
+    let r = c.from_residual-in_err-put_contents in
     let e = err_from_is_err_and r.result r.ensures.1 in
-    let put = c.in-err-put-contents.ensures in
+    let put = c.in_err-put_contents.ensures in
     rw (e.1, e.2) (record {
-      loaded = λ w n. pool_full (decoded c.args.bytes.now) (meant c.args.pool.now) (map said (held b)) (room b) w n (told.meant c.in-ok-trace.trace) c.in-ok-trace.ensures.value c.in-err-put-contents.field-0.0 (meant c.put-contents.new.pool) put.value put.after;
+      loaded = λ w n. pool_full (decoded c.args.bytes.now) (meant c.args.pool.now) (map said (held b)) (room b) w n (told.meant c.in_ok-trace.trace) c.in_ok-trace.ensures.value c.in_err-put_contents.field-0.0 (meant c.put_contents.new.pool) put.value put.after;
       room = refl;
     })
 
 pub returns-in-Err : goal.returns-in-Err
 returns-in-Err c =
     let b = c.args.book.now in
-    let put = c.in-ok-put-contents.ensures in
+    let put = c.in_ok-put_contents.ensures in
     let taken = c.in-Err.ensures in
     record {
-      loaded = λ w n. book_full (decoded c.args.bytes.now) (meant c.args.pool.now) (map said (held b)) (room b) w n (told.meant c.in-ok-trace.trace) c.in-ok-trace.ensures.value (meant c.put-contents.new.pool) put.value put.after
-          c.in-Err.refusal c.count-count.result (meant c.cut.new.self) (map said (held c.take-hints.new.book)) c.count-count.ensures.value c.cut.ensures taken.value taken.held;
+      loaded = λ w n. book_full (decoded c.args.bytes.now) (meant c.args.pool.now) (map said (held b)) (room b) w n (told.meant c.in_ok-trace.trace) c.in_ok-trace.ensures.value (meant c.put_contents.new.pool) put.value put.after
+          c.in-Err.refusal c.count-count.result (meant c.cut.new.self) (map said (held c.take_hints.new.book)) c.count-count.ensures.value c.cut.ensures taken.value taken.held;
       room = taken.room;
     }

@@ -14,7 +14,7 @@ returns-in_default-lowest g c =
     let n = g.P.Policy.passes c.args.policy.now in
     let a : Asked = record { patience = m; before = n; after = n } in
     record {
-      did = refused w (has c.left-left.result) c.left-left.ensures (sym c.if-not-is-open.ensures) (sym c.in_default.ensures) a c.in_default-lowest.ensures (refl {a = n});
+      did = refused w (has c.left-left.result) c.left-left.ensures (sym c.if-not-is_open.ensures) (sym c.in_default.ensures) a c.in_default-lowest.ensures (refl {a = n});
       same = refl {a = m};
     }
 
@@ -24,6 +24,6 @@ returns g c =
     let v = world (g.F.FileStore.map c.work.new.files) (meant c.work.new.pool) c.work.new.self c.args.book.now in
     let a : Asked = record { patience = g.P.Policy.patience c.args.policy.now; before = g.P.Policy.passes c.args.policy.now; after = g.P.Policy.passes c.ask-line.new.self } in
     record {
-      did = worked w (has c.left-left.result) c.left-left.ensures (sym c.if-not-is-open.ensures) (sym c.in_default.ensures) a c.in-Some-lowest.front c.ask-line.result c.work.result v c.in-Some-lowest.ensures c.ask-line.ensures.answers c.work.ensures.line c.work.ensures.skipped c.work.ensures.stop c.work.ensures.world;
+      did = worked w (has c.left-left.result) c.left-left.ensures (sym c.if-not-is_open.ensures) (sym c.in_default.ensures) a c.in-Some-lowest.front c.ask-line.result c.work.result v c.in-Some-lowest.ensures c.ask-line.ensures.answers c.work.ensures.line c.work.ensures.skipped c.work.ensures.stop c.work.ensures.world;
       same = c.ask-line.ensures.same;
     }

@@ -12,7 +12,7 @@ loop-r-init c = rest_none (meant c.args.pool.now) c.args.records.now _ refl
 pub bounds-list-count : goal.bounds-list-count
 bounds-list-count c =
     let l = c.loop-r in
-    rest_room (meant c.args.pool.now) c.args.records.now l.list l.r-index l.count l.invariant (said (get_or c.args.records.now l.r-index no_record)) (sym c.if-taken.true ∙ c.is-chosen-taken.ensures)
+    rest_room (meant c.args.pool.now) c.args.records.now l.list l.r-index l.count l.invariant (said (get_or c.args.records.now l.r-index no_record)) (sym c.if-taken.true ∙ c.is_chosen-taken.ensures)
 
 pub loop-r-preserved : goal.loop-r-preserved
 loop-r-preserved c =
@@ -22,10 +22,10 @@ loop-r-preserved c =
     elim c.if-taken.branch [
       | then-taken w ↦
           rest_same p rs _ _ _ _ _ w.list-is w.count-is
-          (rest_take p rs l.list l.r-index l.count l.invariant _ c.loop-r-test.true (sym w.if-taken.true ∙ c.is-chosen-taken.ensures))
+          (rest_take p rs l.list l.r-index l.count l.invariant _ c.loop-r-test.true (sym w.if-taken.true ∙ c.is_chosen-taken.ensures))
       | else-taken w ↦
           rest_same p rs _ _ _ _ _ w.list-is w.count-is
-          (rest_skip p rs l.list l.r-index l.count l.invariant _ c.loop-r-test.true (sym w.if-taken.false ∙ c.is-chosen-taken.ensures))
+          (rest_skip p rs l.list l.r-index l.count l.invariant _ c.loop-r-test.true (sym w.if-taken.false ∙ c.is_chosen-taken.ensures))
     ]
 
 pub returns : goal.returns

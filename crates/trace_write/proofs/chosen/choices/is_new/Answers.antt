@@ -8,4 +8,4 @@ pub returns-then-not-known : goal.returns-then-not-known
 returns-then-not-known c =
     let es = c.args.earlier.now in
     ap (λ n. ltb n 256) (sym (length-map es said))
-    ∙ ap (λ b. not b && ltb (length (map said es)) 256) (sym (sym c.has-command-known.ensures ∙ c.if-not-known.true))
+    ∙ ap (λ b. not b && ltb (length (map said es)) 256) (sym (sym c.has_command-known.ensures ∙ c.if-not-known.true))

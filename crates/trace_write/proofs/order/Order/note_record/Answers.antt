@@ -9,18 +9,18 @@ use Rattle.trace_write.specs.Puts.{numbers_of, number_of_use}
 use Rattle.trace_write.specs.Rooms.{Number}
 use Rattle.trace_write.specs.Saves.{listed}
 
-pub note-uses-requires : goal.note-uses-requires
-note-uses-requires c =
+pub note_uses-requires : goal.note_uses-requires
+note_uses-requires c =
     let r = said c.args.rec.now in
     record {
       room = c.requires.room;
-      numbers = subst (All (λ u. Number u.number)) (sym c.reads-of.ensures.value) (named_reads number_of_use r.reads r.write.number c.requires.numbers);
+      numbers = subst (All (λ u. Number u.number)) (sym c.reads_of.ensures.value) (named_reads number_of_use r.reads r.write.number c.requires.numbers);
     }
 
 pub note-requires : goal.note-requires
 note-requires c =
     let r = said c.args.rec.now in
-    record { room = c.note-uses.ensures.room; number = named_write number_of_use r.reads r.write.number c.requires.numbers }
+    record { room = c.note_uses.ensures.room; number = named_write number_of_use r.reads r.write.number c.requires.numbers }
 
 pub returns : goal.returns
 returns c =
@@ -30,6 +30,6 @@ returns c =
       room = c.note.ensures.room;
       after =
           c.note.ensures.after
-          ∙ ap (λ l. listed l r.write.number) (c.note-uses.ensures.after ∙ ap (λ us. after listed ns (map number_of_use us)) c.reads-of.ensures.value)
+          ∙ ap (λ l. listed l r.write.number) (c.note_uses.ensures.after ∙ ap (λ us. after listed ns (map number_of_use us)) c.reads_of.ensures.value)
           ∙ sym (after_append listed ns (map number_of_use r.reads) (r.write.number ∷ []));
     }

@@ -15,8 +15,8 @@ use Rattle.trace_write.specs.Saves.{listed, numbers_in}
 pub loop-r-init : goal.loop-r-init
 loop-r-init c = (record { table = refl; count = omega arith; numbers = tt; apart = tt }, refl)
 
-pub note-record-requires : goal.note-record-requires
-note-record-requires c =
+pub note_record-requires : goal.note_record-requires
+note_record-requires c =
     record { room = c.loop-r.invariant.0; numbers = All-get_or Named c.args.records.now c.loop-r.r-index no_record c.loop-r-test.true c.requires }
 
 pub loop-r-preserved : goal.loop-r-preserved
@@ -25,8 +25,8 @@ loop-r-preserved c =
     let i = c.loop-r.r-index in
     let ns = numbers_of c.loop-r.order in
     let more = flat_map numbers_in (map said (drop (i + 1) rs)) in (
-      c.note-record.ensures.room,
-      ap (λ l. after listed l more) c.note-record.ensures.after
+      c.note_record.ensures.room,
+      ap (λ l. after listed l more) c.note_record.ensures.after
           ∙ sym (after_append listed ns (numbers_in (said (get_or rs i no_record))) more)
           ∙ sym (at_drop_more (λ l. after listed ns (flat_map numbers_in (map said l))) rs i no_record c.loop-r-test.true)
           ∙ c.loop-r.invariant.1,

@@ -8,12 +8,12 @@ use Rattle.trace.specs.Reads.{two_bytes}
 pub returns : goal.returns
 returns c =
     let x = c.args.content.now in
-    let a = c.put-number-next.ensures in
-    let b = c.put-piece.ensures in
+    let a = c.put_number-next.ensures in
+    let b = c.put_piece.ensures in
     let l = length-append (two_bytes (length x)) x in
     record {
       bytes =
-          two_writes c.args.at c.put-number-next.result (two_bytes (length x)) x c.args.out.now c.put-number-next.new.out c.put-piece.new.out
+          two_writes c.args.at c.put_number-next.result (two_bytes (length x)) x c.args.out.now c.put_number-next.new.out c.put_piece.new.out
           (omega arith) a.bytes a.end b.bytes;
       end = omega (arith, a.end, b.end);
     }

@@ -6,6 +6,6 @@ use Rattle.trace_write.proofs.saves.pieces.put_piece.Goals as goal
 pub returns : goal.returns
 returns c =
     record {
-      bytes = put_piece c.args.at c.args.piece.now c.copy-from-slice.new.self c.args.out.now c.copy-from-slice.ensures.after;
+      bytes = put_piece c.args.at c.args.piece.now c.copy_from_slice.new.self c.args.out.now c.copy_from_slice.ensures.after;
       end = refl;
     }

@@ -9,11 +9,11 @@ pub returns : goal.returns
 returns c =
     let u = c.args.u in
     let i = c.place-index.result in
-    let a = c.put-byte-next.ensures in
-    let b = c.put-number.ensures in
+    let a = c.put_byte-next.ensures in
+    let b = c.put_number.ensures in
     record {
       bytes =
-          two_writes c.args.at c.put-byte-next.result (u.file ∷ []) (two_bytes i) c.args.out.now c.put-byte-next.new.out c.put-number.new.out
+          two_writes c.args.at c.put_byte-next.result (u.file ∷ []) (two_bytes i) c.args.out.now c.put_byte-next.new.out c.put_number.new.out
           (omega (arith, c.requires.room)) a.bytes a.end b.bytes
           ∙ ap (λ n. put c.args.at (u.file ∷ two_bytes n) c.args.out.now) c.place-index.ensures.value;
       end = omega (arith, a.end, b.end);

@@ -8,11 +8,11 @@ use Rattle.trace_write.specs.Puts.{content_of}
 pub loop-n-init : goal.loop-n-init
 loop-n-init c = sum_none (content_of (meant c.args.pool.now)) 4098 c.args.numbers.now
 
-pub overflow-add-sum : goal.overflow-add-sum
-overflow-add-sum c = omega (arith, c.bytes.ensures.short)
+pub overflow_add-sum : goal.overflow_add-sum
+overflow_add-sum c = omega (arith, c.bytes.ensures.short)
 
-pub overflow-add-sum-in-loop-n : goal.overflow-add-sum-in-loop-n
-overflow-add-sum-in-loop-n c = let low = c.loop-n.invariant.low in omega (arith, c.requires, c.bytes.ensures.short)
+pub overflow_add-sum-in-loop-n : goal.overflow_add-sum-in-loop-n
+overflow_add-sum-in-loop-n c = let low = c.loop-n.invariant.low in omega (arith, c.requires, c.bytes.ensures.short)
 
 pub loop-n-preserved : goal.loop-n-preserved
 loop-n-preserved c =

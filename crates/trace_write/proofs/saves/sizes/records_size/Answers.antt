@@ -8,21 +8,21 @@ use Rattle.trace_write.specs.Puts.{record_of}
 pub loop-r-init : goal.loop-r-init
 loop-r-init c = sum_none (record_of c.args.numbers.now) 57 c.args.list.now
 
-pub overflow-mul-sum : goal.overflow-mul-sum
-overflow-mul-sum c = omega (arith, c.reads-of.ensures.few)
+pub overflow_mul-sum : goal.overflow_mul-sum
+overflow_mul-sum c = omega (arith, c.reads_of.ensures.few)
 
-pub overflow-add-sum : goal.overflow-add-sum
-overflow-add-sum c = omega (arith, c.reads-of.ensures.few)
+pub overflow_add-sum : goal.overflow_add-sum
+overflow_add-sum c = omega (arith, c.reads_of.ensures.few)
 
-pub overflow-add-sum-in-loop-r : goal.overflow-add-sum-in-loop-r
-overflow-add-sum-in-loop-r c = let low = c.loop-r.invariant.low in omega (arith, c.requires, c.reads-of.ensures.few)
+pub overflow_add-sum-in-loop-r : goal.overflow_add-sum-in-loop-r
+overflow_add-sum-in-loop-r c = let low = c.loop-r.invariant.low in omega (arith, c.requires, c.reads_of.ensures.few)
 
 pub loop-r-preserved : goal.loop-r-preserved
 loop-r-preserved c =
     let ns = c.args.numbers.now in
     let r = get_or c.args.list.now c.loop-r.r-index no_record in
-    let few = c.reads-of.ensures.few in
-    let same = ap length c.reads-of.ensures.value in
+    let few = c.reads_of.ensures.few in
+    let same = ap length c.reads_of.ensures.value in
     let size = record_size ns r in
     sum_more (record_of ns) 57 c.args.list.now c.loop-r.r-index c.loop-r.sum c.loop-r.invariant no_record c.loop-r-test.true (omega arith) _ (omega arith)
 

@@ -9,17 +9,17 @@ use Rattle.trace_write.proofs.saves.whole.save_chosen.Goals as goal
 use Rattle.trace_write.specs.Puts.{saved, after_save}
 use Rattle.trace_write.specs.Saves.{to_save}
 
-pub order-of-order-requires : goal.order-of-order-requires
-order-of-order-requires c =
+pub order_of-order-requires : goal.order_of-order-requires
+order_of-order-requires c =
     kept_named (meant c.args.pool.now) (sound c.args.pool.now) (map said c.args.records.now) c.choose-chosen.result c.choose-chosen.ensures.value
 
-pub put-trace-requires : goal.put-trace-requires
-put-trace-requires c =
+pub put_trace-requires : goal.put_trace-requires
+put_trace-requires c =
     let p = meant c.args.pool.now in
     let good = sound c.args.pool.now in
     let rs = map said c.args.records.now in
     record {
-      numbers = used_few p good rs c.choose-chosen.result c.choose-chosen.ensures.value c.order-of-order.result c.order-of-order.ensures.value;
+      numbers = used_few p good rs c.choose-chosen.result c.choose-chosen.ensures.value c.order_of-order.result c.order_of-order.ensures.value;
       records = kept_few p good rs c.choose-chosen.result c.choose-chosen.ensures.value;
     }
 
@@ -29,11 +29,11 @@ returns c =
     let good = sound c.args.pool.now in
     let rs = map said c.args.records.now in
     let bs = c.args.out.now in
-    let same = tables_are p good rs c.choose-chosen.result c.choose-chosen.ensures.value c.order-of-order.result c.order-of-order.ensures.value in
-    let answer = c.put-trace.ensures.value ∙ ap (λ t. saved t bs) same in
-    let after = c.put-trace.ensures.bytes ∙ ap (λ t. after_save t bs) same in
+    let same = tables_are p good rs c.choose-chosen.result c.choose-chosen.ensures.value c.order_of-order.result c.order_of-order.ensures.value in
+    let answer = c.put_trace.ensures.value ∙ ap (λ t. saved t bs) same in
+    let after = c.put_trace.ensures.bytes ∙ ap (λ t. after_save t bs) same in
     record {
       value = answer;
       bytes = after;
-      accepted = accepted (to_save p rs) bs (saved_back p good rs) c.put-trace.result c.put-trace.new.out answer after;
+      accepted = accepted (to_save p rs) bs (saved_back p good rs) c.put_trace.result c.put_trace.new.out answer after;
     }

@@ -1,6 +1,6 @@
 -- What is left to write gives the slice.
 use Rattle.trace_write.proofs.Writes.{Left}
-use Rattle.trace_write.proofs.saves.lists.put_records.Given as goal
+use Rattle.trace_write.proofs.saves.sections.put_records.Given as goal
 use Rattle.trace_write.specs.Puts.{record_of}
 
 abbrev pub invariant-loop-r : goal.invariant-loop-r

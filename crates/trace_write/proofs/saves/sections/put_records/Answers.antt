@@ -2,14 +2,14 @@
 use Rattle.std.proofs.Common.{arith}
 use Rattle.trace_write.proofs.Chosens.{no_record}
 use Rattle.trace_write.proofs.Writes.{left_none, left_room, left_more, left_all, left_end}
-use Rattle.trace_write.proofs.saves.lists.put_records.Goals as goal
+use Rattle.trace_write.proofs.saves.sections.put_records.Goals as goal
 use Rattle.trace_write.specs.Puts.{record_of}
 
 pub loop-r-init : goal.loop-r-init
 loop-r-init c = left_none (record_of c.args.numbers.now) c.args.list.now c.args.start c.args.out.now c.requires.room
 
-pub put-record-at-requires : goal.put-record-at-requires
-put-record-at-requires c =
+pub put_record-at-requires : goal.put_record-at-requires
+put_record-at-requires c =
     let l = c.loop-r in
     record {
       few = c.requires.few;
@@ -20,7 +20,7 @@ pub loop-r-preserved : goal.loop-r-preserved
 loop-r-preserved c =
     let l = c.loop-r in
     left_more (record_of c.args.numbers.now) c.args.list.now c.args.start c.args.out.now l.r-index l.at l.out l.invariant no_record c.loop-r-test.true
-    c.put-record-at.result c.put-record-at.new.out c.put-record-at.ensures.bytes c.put-record-at.ensures.end
+    c.put_record-at.result c.put_record-at.new.out c.put_record-at.ensures.bytes c.put_record-at.ensures.end
 
 pub returns : goal.returns
 returns c =

@@ -1,7 +1,7 @@
 -- What is left to write gives the slice.
 use Rattle.pool.specs.Contents.{meant}
 use Rattle.trace_write.proofs.Writes.{Left}
-use Rattle.trace_write.proofs.saves.lists.put_contents.Given as goal
+use Rattle.trace_write.proofs.saves.sections.put_contents.Given as goal
 use Rattle.trace_write.specs.Puts.{content_of}
 
 abbrev pub invariant-loop-n : goal.invariant-loop-n
