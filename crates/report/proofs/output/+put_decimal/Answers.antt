@@ -15,7 +15,7 @@ returns-then-n-lt10 t c =
     let n = c.args.n in
     let a = c.put_byte.ensures in
     let w = as_bytes (decimal n) (sym (decimal_digit n (omega arith))) (wrote c.args.at ((48 + n) ∷ []) c.args.out.now a.bytes a.end) in
-    record { bytes = w.bytes; end = w.end-is }
+    record { bytes = w.bytes; end = w.end_is }
 
 pub put_decimal-next-requires : goal.put_decimal-next-requires
 put_decimal-next-requires t c =
@@ -37,4 +37,4 @@ returns t c =
     let front = wrote c.args.at (decimal (n / 10)) c.args.out.now a.bytes a.end in
     let last = wrote c.put_decimal-next.result ((48 + n % 10) ∷ []) c.put_decimal-next.new.out b.bytes b.end in
     let w = as_bytes (decimal n) (sym (decimal_step n (omega arith) (omega arith))) (then front last) in
-    record { bytes = w.bytes; end = w.end-is }
+    record { bytes = w.bytes; end = w.end_is }
