@@ -32,7 +32,7 @@ fn a_content_and_where_it_starts(rt: HostRuntime) -> Result<(), Fail> {
     match pool.content(2) {
         Some(content) => {
             assert_eq!(rt; content.start, 3);
-            assert!(rt; content.bytes == b"route");
+            assert!(rt; content.bytes == b"route".as_slice());
         }
         None => return Err(Fail::new("the content is not there")),
     }

@@ -9,7 +9,7 @@ fn a_list_fills_and_is_cut(rt: HostRuntime) {
     assert!(rt; list.push(b'c'));
     assert!(rt; !list.push(b'd'));
     assert!(rt; list.replace(1, b'x'));
-    assert!(rt; list.as_slice() == b"axc");
+    assert!(rt; list.as_slice() == b"axc".as_slice());
     list.truncate(5);
     assert_eq!(rt; list.len(), 3);
     list.truncate(1);
