@@ -1,12 +1,12 @@
 -- What a line has read, by the numbers of its reads.
-use Rattle.std.proofs.Common.{◌≡◌, ℕ, zero, suc, ◌+◌, ◌-◌, ◌<◌, ◌≤◌, Bool, true, false, cond, eqb, List, [], ◌∷◌, ◌++◌, map, length, drop, Some, None, Option, sym, refl, ap, ◌∙◌, arith}
-use Rattle.std.proofs.lemmas.List.{length-map, drop-map}
+use Rattle.std.proofs.Common.{◌≡◌, ℕ, ◌-◌, ◌≤◌, Bool, true, false, cond, eqb, List, [], ◌∷◌, map, length, drop, Some, None, Option, sym, refl, ap, ◌∙◌, arith}
+use Rattle.std.proofs.lemmas.List.{length-map}
 use Rattle.std.specs.List.{slice_get}
 use Rattle.model.specs.declared.command.Command.{Command}
 use Rattle.model.specs.declared.command.Kind.{Kind}
 use Rattle.model.specs.declared.command.Kind.TheVariants.{Copy, Join, Gather, Choose, Tally, Check}
 use Rattle.model.specs.declared.run.Entry.{Entry}
-use Rattle.model.specs.Commands.{Want, reads, writes, bad, all_bytes, next, want, gathers, listed, next_listed}
+use Rattle.model.specs.Commands.{reads, writes, all_bytes, next, want, gathers, listed, next_listed}
 use Rattle.model.specs.Hazards.{has_read}
 use Rattle.model.specs.Contents.{Content, Pool, content}
 use Rattle.engine.specs.Reads.{numbers}

@@ -1,13 +1,12 @@
 -- A record's acts, made again.
-use Rattle.std.proofs.Common.{◌≡◌, ℕ, ◌+◌, ◌<◌, ◌≤◌, Bool, true, false, cond, ◌&&◌, eqb, ltb, leb, List, [], ◌∷◌, ◌++◌, length, get_or, drop, Some, None, Option, sym, refl, ap, ◌∙◌, inl, inr, arith}
+use Rattle.std.proofs.Common.{◌≡◌, ℕ, ◌+◌, ◌<◌, ◌≤◌, Bool, true, false, cond, ◌&&◌, ltb, leb, List, [], ◌∷◌, ◌++◌, length, get_or, drop, Some, None, sym, ap, ◌∙◌, inl, inr, arith}
 use Rattle.std.proofs.lemmas.Slice.Eq.{bytes_eq-Decides}
 use Rattle.std.proofs.lemmas.List.{at_drop_more, at_drop_all}
-use Rattle.std.proofs.lemmas.Bool.{cond-true, cond-false, cases_Bool, leb-false, eq-eqb, lt-ltb}
+use Rattle.std.proofs.lemmas.Bool.{cond-true, cases_Bool, leb-false, eq-eqb, lt-ltb}
 use Rattle.std.specs.Str.{bytes_eq}
 use Rattle.model.specs.declared.run.Entry.{Entry}
 use Rattle.model.specs.declared.record.Use.{Use}
 use Rattle.model.specs.Commands.{Want}
-use Rattle.model.specs.Hazards.{has_read}
 use Rattle.model.specs.Truth.{asks, makes, follows}
 use Rattle.model.specs.Contents.{Content, Pool, content, holds}
 use Rattle.engine.specs.Fits.{fitting}

@@ -14,7 +14,6 @@ use Rattle.model.specs.Records.{Record}
 use Rattle.model.specs.Truth.{asks, follows, true_in}
 use Rattle.model.specs.Book.{same_command, in_script, own, use_of, reads_of, write_of, recorded, has_record, replace, evict, keep, keeps, hint}
 use Rattle.model.specs.Promise.{OwnTrue}
-use Rattle.model.proofs.Trace as Trace
 use Rattle.model.proofs.Trace.{Trace, Start, line, mine, seen, ends, wish, Steps}
 use Rattle.model.proofs.Entries.{event_by, event, trace, Numbered}
 use Rattle.model.proofs.Correspond.{start, Corresponds}

@@ -2,7 +2,6 @@
 use Rattle.std.proofs.Common.{◌≡◌, ℕ, suc, ◌<◌, ◌≤◌, true, List, [], ◌∷◌, length, get_or, sym, refl, ap, ◌∙◌, subst, arith}
 use Rattle.model.specs.declared.command.Command.{Command}
 use Rattle.model.specs.Contents.{Pool, count}
-use Rattle.model.specs.Hazards.{ended}
 use Rattle.model.specs.Acts.{State}
 use Rattle.model.specs.Order.{in_order}
 use Rattle.model.specs.World.{World, state}

@@ -1,16 +1,13 @@
 -- What a call that did as the model says promises, over any past.
-use Rattle.std.proofs.Common.{◌≡◌, ℕ, List, None, Ok, Err, Result, sym, refl, subst}
+use Rattle.std.proofs.Common.{ℕ, List, Ok, Err, Result, sym, refl, subst}
 use Rattle.model.specs.declared.command.Command.{Command}
 use Rattle.model.specs.declared.answers.Built.{Built}
 use Rattle.model.specs.declared.answers.BuildRefusal.{BuildRefusal}
-use Rattle.model.specs.declared.answers.BuildRefusal.TheVariants.{Stopped}
 use Rattle.model.specs.declared.answers.Closed.{Closed}
-use Rattle.model.specs.declared.answers.Closed.TheVariants.{Kept}
 use Rattle.model.specs.declared.answers.CloseRefusal.{CloseRefusal}
 use Rattle.model.specs.declared.answers.StepRefusal.{StepRefusal}
 use Rattle.model.specs.declared.answers.Stepped.{Stepped}
 use Rattle.model.specs.declared.answers.Wish.{Wish}
-use Rattle.model.specs.declared.run.Stop.{Stop}
 use Rattle.model.specs.Policies.{Asked}
 use Rattle.model.specs.World.{World}
 use Rattle.model.specs.Begin.{Ticket}

@@ -1,6 +1,5 @@
 -- What holds of every world that has a past: of an open run, that its acts so far are steps from what begin found.
 use Rattle.std.proofs.Common.{◌≡◌, ℕ, zero, suc, ◌*◌, ◌<◌, ◌≤◌, Bool, true, false, cond, ltb, ◌⊎◌, List, [], ◌∷◌, length, get_or, set, Some, None, Ok, Err, Option, sym, refl, ap, ◌∙◌, subst, inl, inr, ⊎_elim, arith}
-use Rattle.std.proofs.lemmas.List.{take_all}
 use Rattle.std.proofs.lemmas.Bool.{cases_lt, both_ways, and_parts, or_parts, ltb-false, ltb-true, not-true}
 use Rattle.model.specs.declared.command.Command.{Command}
 use Rattle.model.specs.declared.refusal.Refusal.{Refusal}

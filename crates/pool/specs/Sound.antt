@@ -1,5 +1,5 @@
 -- What holds of every pool of the code, told of the model's pool that it means.
-use Rattle.std.specs.Prelude.{◌≡◌, ℕ, ◌<◌, ◌≤◌, List, [], length, ◌≢◌, slice_index_or}
+use Rattle.std.specs.Prelude.{ℕ, ◌<◌, ◌≤◌, List, [], length, ◌≢◌, slice_index_or}
 use Rattle.model.specs.Contents as Model
 
 -- no two contents are equal

@@ -3,7 +3,7 @@ use Rattle.std.proofs.Common.{◌≡◌, ℕ, zero, suc, ◌<◌, ◌≤◌, Lis
 use Rattle.std.specs.Option.{option_map}
 use Rattle.std.specs.List.{AllByRecursion as All, slice_get}
 use Rattle.script.specs.declared.answer.Have.{Have}
-use Rattle.script.specs.Sound.{Sound, Starts, Acts, LabelsShort, LabelsApart, StartsFit, ActsFit}
+use Rattle.script.specs.Sound.{Sound, Starts, Acts, StartsFit, ActsFit}
 use Rattle.script.specs.Text.{Meaning}
 use Rattle.script.specs.Views.{start_of}
 

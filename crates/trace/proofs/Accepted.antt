@@ -1,5 +1,5 @@
 -- An accepted file is what its trace is written as, and the trace is lawful.
-use Rattle.std.proofs.Common.{◌≡◌, ℕ, ◌+◌, Bool, true, false, cond, not, ◌&&◌, eqb, leb, List, [], ◌∷◌, ◌++◌, length, Some, None, Ok, Err, Option, sym, refl, ap, ◌∙◌, append-nil, arith}
+use Rattle.std.proofs.Common.{◌≡◌, ℕ, Bool, true, false, cond, not, ◌&&◌, eqb, leb, List, [], ◌∷◌, ◌++◌, length, Some, None, Ok, Err, Option, sym, refl, ap, ◌∙◌, append-nil, arith}
 use Rattle.std.proofs.lemmas.List.{nil_from_length}
 use Rattle.std.proofs.lemmas.Bool.{and_from, eqb-true}
 use Rattle.std.specs.List.{flat_map}
@@ -15,7 +15,7 @@ use Rattle.model.specs.declared.record.Use.{Use}
 use Rattle.model.specs.declared.refusal.Refusal.TheVariants.{TraceLength}
 use Rattle.trace.proofs.Backs.{went, held, rest_bytes, join, Backs, byte_back, number_back, count_back, file_back, piece_back, many_back, same_value, same_rest}
 use Rattle.trace.specs.Laws.{Bytes}
-use Rattle.trace.specs.Reads.{read, then, a_byte, a_number, a_count, a_piece, many, after, two_bytes}
+use Rattle.trace.specs.Reads.{read, a_byte, a_number, a_count, a_piece, many, after, two_bytes}
 use Rattle.trace.specs.Format.{Before, start, noted, higher, push, new_content, content_of_length, a_content, all_contents, the_contents, kind_of, kind_told, kind_field, a_kind, highest, a_file, known_command, new_command, from_third, from_second, from_first, from_kind, a_command, index_ok, use_index, use_file, a_use, count_ok, record_write, record_reads, record_count, record_command, a_record, all_records, the_records, ended, finished, with_contents, decoded, content_bytes, command_bytes, use_bytes, record_bytes, encoded, content_ok, files_ok, use_ok, record_ok, lawful}
 
 pub content_back : (es : List Content) → Backs (a_content es) content_bytes (content_ok es)

@@ -1,5 +1,5 @@
 -- A lawful trace is read back.
-use Rattle.std.proofs.Common.{◌≡◌, ℕ, ◌+◌, ◌*◌, ◌/◌, ◌%◌, Bool, true, false, not, ◌&&◌, eqb, leb, List, [], ◌∷◌, ◌++◌, length, take, drop, Ok, Err, Result, sym, refl, ap, ◌∙◌, append_assoc, append-nil, arith}
+use Rattle.std.proofs.Common.{◌≡◌, ℕ, ◌+◌, ◌*◌, ◌/◌, ◌%◌, Bool, true, not, ◌&&◌, eqb, leb, List, [], ◌∷◌, ◌++◌, length, take, drop, Ok, Err, Result, sym, refl, ap, ◌∙◌, append_assoc, append-nil, arith}
 use Rattle.std.proofs.lemmas.List.{length-append, take_at, drop_at}
 use Rattle.std.proofs.lemmas.Bool.{cond-true, and_parts, le-leb}
 use Rattle.std.specs.List.{flat_map}
@@ -15,8 +15,8 @@ use Rattle.model.specs.declared.record.Standing.TheVariants.{Hint, Own, Struck}
 use Rattle.model.specs.declared.record.Use.{Use}
 use Rattle.model.specs.declared.refusal.Refusal.{Refusal}
 use Rattle.model.specs.declared.refusal.Refusal.TheVariants.{TraceLength, TraceRule}
-use Rattle.trace.specs.Reads.{Reading, read, then, rule, a_number, at_most, a_count, a_piece, many, after, each, two_bytes}
-use Rattle.trace.specs.Format.{Before, start, noted, higher, push, new_content, content_of_length, a_content, all_contents, kind_told, a_kind, highest, a_file, known_command, new_command, from_third, from_second, from_first, from_kind, a_command, index_ok, use_index, use_file, a_use, count_ok, record_write, record_reads, record_command, a_record, all_records, finished, with_contents, decoded, content_bytes, command_bytes, use_bytes, record_bytes, encoded, content_ok, files_ok, use_ok, is_hint, record_ok, lawful}
+use Rattle.trace.specs.Reads.{Reading, read, then, rule, at_most, a_count, a_piece, many, after, each, two_bytes}
+use Rattle.trace.specs.Format.{Before, start, noted, higher, push, new_content, content_of_length, a_content, all_contents, a_kind, highest, a_file, known_command, new_command, from_third, from_second, from_first, from_kind, a_command, index_ok, use_index, use_file, a_use, count_ok, record_write, record_reads, record_command, a_record, all_records, finished, with_contents, decoded, content_bytes, command_bytes, use_bytes, record_bytes, encoded, content_ok, files_ok, use_ok, is_hint, record_ok, lawful}
 
 passed : {Y : Type 0} (t : Bool) (r : Result Y Refusal) → t ≡ true → rule t r ≡ r
 passed t r e = cond-true t r (Err TraceRule) e

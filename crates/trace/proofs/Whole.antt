@@ -1,7 +1,6 @@
 -- The whole file, by the answers of its sections.
-use Rattle.std.proofs.Common.{◌≡◌, ℕ, Bool, true, false, cond, eqb, List, [], ◌∷◌, length, IfOk, Ok, Err, Result, sym, refl, ap, ◌∙◌, arith}
+use Rattle.std.proofs.Common.{◌≡◌, ℕ, Bool, true, false, cond, eqb, List, length, IfOk, Ok, Err, Result, sym, refl, ap, ◌∙◌, arith}
 use Rattle.model.specs.Contents.{Content}
-use Rattle.model.specs.Records.{Record}
 use Rattle.model.specs.Load.{Traced}
 use Rattle.model.specs.declared.refusal.Refusal.{Refusal}
 use Rattle.model.specs.declared.refusal.Refusal.TheVariants.{TraceLength}

@@ -1,10 +1,10 @@
 -- A loop that puts contents: what is left gives the pool, and cutting back gives the pool that was there.
-use Rattle.std.proofs.Common.{◌≡◌, ℕ, ◌+◌, ◌<◌, ◌≤◌, Bool, true, false, cond, eqb, ltb, List, [], ◌∷◌, ◌++◌, map, length, get_or, take, drop, is_ok, is_err, Some, None, Ok, Err, Option, Result, sym, refl, ap, ◌∙◌, subst, arith, Bor}
-use Rattle.std.proofs.lemmas.List.{length_push, take-append-le, take_all, at_drop_more, at_drop_all}
+use Rattle.std.proofs.Common.{◌≡◌, ℕ, ◌+◌, ◌<◌, ◌≤◌, true, false, cond, eqb, ltb, List, map, length, get_or, drop, is_ok, is_err, Some, None, Ok, Err, Result, sym, refl, ap, ◌∙◌, subst, arith, Bor}
+use Rattle.std.proofs.lemmas.List.{at_drop_more, at_drop_all}
 use Rattle.std.proofs.lemmas.Bool.{cond-true, cond-false, eq-eqb, ne_eqb, ltb-true, ltb-false}
 use Rattle.pool.specs.declared.answers.NoRoom.{NoRoom}
 use Rattle.pool.specs.declared.answers.Put.{Put}
-use Rattle.model.specs.Contents.{Content, Pool, mem, fits, given, put, cut}
+use Rattle.model.specs.Contents.{Content, Pool, given, put, cut}
 use Rattle.model.specs.Load.{puts}
 use Rattle.model.proofs.Growth.{Began, began_none, began_put}
 

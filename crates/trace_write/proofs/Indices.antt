@@ -1,5 +1,5 @@
 -- The places in the order of first use are indices as a file wants them.
-use Rattle.std.proofs.Common.{◌≡◌, ℕ, suc, ◌+◌, ◌<◌, ◌≤◌, max, Bool, true, false, cond, not, ◌&&◌, eqb, leb, List, [], ◌∷◌, ◌++◌, map, length, sym, refl, ap, ◌∙◌, subst, inl, inr, append_assoc, append-nil, arith}
+use Rattle.std.proofs.Common.{◌≡◌, ℕ, suc, ◌+◌, ◌<◌, ◌≤◌, max, Bool, true, false, cond, not, ◌&&◌, leb, List, [], ◌∷◌, ◌++◌, map, length, sym, refl, ap, ◌∙◌, inl, inr, append_assoc, append-nil, arith}
 use Rattle.std.proofs.lemmas.List.{length-append, length_push, length-map}
 use Rattle.std.proofs.lemmas.Bool.{and_parts, and_from, le-leb, leb-true, leb-false, cases_eq, cases_Bool, cond-true, cond-false}
 use Rattle.std.specs.List.{flat_map}
@@ -7,10 +7,10 @@ use Rattle.model.specs.Contents.{Pool, holds}
 use Rattle.model.specs.Records.{Record}
 use Rattle.model.specs.declared.command.Command.{Command}
 use Rattle.model.specs.declared.record.Use.{Use}
-use Rattle.trace.specs.Format.{Before, noted, raised, higher, push, index_ok, use_ok, count_ok, known_command, record_ok}
+use Rattle.trace.specs.Format.{noted, raised, higher, push, index_ok, use_ok, count_ok, known_command, record_ok}
 use Rattle.trace.specs.Reads.{after, each}
 use Rattle.trace.specs.Told.{met}
-use Rattle.trace_write.proofs.Lists.{place_same, place_other, place_low, place_high}
+use Rattle.trace_write.proofs.Lists.{place_same, place_other, place_low}
 use Rattle.trace_write.proofs.Orders.{after_append}
 use Rattle.trace_write.proofs.Selects.{with_command, chosen_ok, savable_parts}
 use Rattle.trace_write.specs.Saves.{every, use_savable, savable, place, listed, numbers_in, indexed_use, indexed}

@@ -1,11 +1,11 @@
 -- Places of numbers in a list, numbers that are listed once, and how many there can be.
-use Rattle.std.proofs.Common.{◌≡◌, ℕ, zero, suc, ◌+◌, ◌<◌, ◌≤◌, Bool, true, false, cond, eqb, leb, List, [], ◌∷◌, ◌++◌, length, get_or, take, drop, set, sym, refl, ap, ◌∙◌, subst, inl, inr, arith}
+use Rattle.std.proofs.Common.{◌≡◌, ℕ, zero, suc, ◌+◌, ◌<◌, ◌≤◌, cond, eqb, leb, List, [], ◌∷◌, ◌++◌, length, get_or, drop, sym, refl, subst, inl, inr, arith}
 use Rattle.std.proofs.ByRecursion.{All-push}
-use Rattle.std.proofs.lemmas.List.{length-append, length_push, at_drop_more, at_drop_all}
+use Rattle.std.proofs.lemmas.List.{at_drop_more, at_drop_all}
 use Rattle.std.proofs.lemmas.Bool.{cond-true, cond-false, eq-eqb, ne_eqb, le-leb, lt-leb, cases_eq, cases_lt}
 use Rattle.std.specs.List.{AllByRecursion as All}
-use Rattle.trace_write.specs.Rooms.{Number, Apart}
-use Rattle.trace_write.specs.Saves.{place, listed}
+use Rattle.trace_write.specs.Rooms.{Apart}
+use Rattle.trace_write.specs.Saves.{place}
 
 -- PLACES
 

@@ -9,7 +9,7 @@ use Rattle.std.specs.Str.{bytes_eq}
 use Rattle.model.specs.Contents.{Content, Pool, mem, find, up, fits, given, put, content}
 use Rattle.model.specs.Records.{Record}
 use Rattle.model.specs.Book.{same_command, own, hint}
-use Rattle.model.specs.Load.{Traced, puts, numbered, hinted, hints}
+use Rattle.model.specs.Load.{Traced, puts, numbered, hints}
 use Rattle.model.specs.declared.record.Standing.{Standing}
 use Rattle.model.specs.declared.record.Standing.TheVariants.{Hint, Own, Struck}
 use Rattle.model.specs.declared.record.Use.{Use}

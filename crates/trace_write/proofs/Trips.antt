@@ -1,5 +1,5 @@
 -- A file that is loaded into an empty pool and an empty book: what that leaves, and that it can be saved again.
-use Rattle.std.proofs.Common.{◌≡◌, ℕ, Bool, true, false, leb, List, [], length, is_ok, Some, None, Ok, Err, Option, Result, sym, refl, ap, ◌∙◌, subst, arith}
+use Rattle.std.proofs.Common.{◌≡◌, ℕ, Bool, true, false, leb, List, [], length, is_ok, Some, None, Ok, Err, Option, Result, sym, refl, ap, ◌∙◌, arith}
 use Rattle.model.specs.Contents.{Pool}
 use Rattle.model.specs.Load.{Traced, puts, hints, Placed, Pooled, Loaded}
 use Rattle.model.specs.World.{World}

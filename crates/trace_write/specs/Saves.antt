@@ -4,7 +4,6 @@ use Rattle.std.specs.List.{flat_map}
 use Rattle.model.specs.Contents.{Pool, holds, content}
 use Rattle.model.specs.Records.{Record}
 use Rattle.model.specs.Load.{Traced}
-use Rattle.model.specs.declared.command.Command.{Command}
 use Rattle.model.specs.declared.record.Standing.{Standing}
 use Rattle.model.specs.declared.record.Standing.TheVariants.{Hint, Own, Struck}
 use Rattle.model.specs.declared.record.Use.{Use}

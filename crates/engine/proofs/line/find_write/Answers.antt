@@ -1,7 +1,7 @@
 -- The loop stops at the write of the line.
-use Rattle.std.proofs.Common.{true, false, not, ◌&&◌, ◌||◌, eqb, get_or, refl, ap}
+use Rattle.std.proofs.Common.{◌&&◌, eqb, refl}
 use Rattle.model.specs.Book.{write_of, use_of}
-use Rattle.model.proofs.Loops.{found_here, not_here, not_found, both_as, either_as}
+use Rattle.model.proofs.Loops.{found_here, not_here, not_found}
 use Rattle.engine.proofs.line.find_write.Goals as goal
 
 pub returns-then-is_write : goal.returns-then-is_write

@@ -1,7 +1,7 @@
 -- The loop stops at the first absent file.
-use Rattle.std.proofs.Common.{true, false, not, ◌&&◌, ◌||◌, eqb, get_or, refl, ap}
+use Rattle.std.proofs.Common.{true, ◌&&◌, eqb}
 use Rattle.model.specs.Acts.{read_absent}
-use Rattle.model.proofs.Loops.{found_here, not_here, not_found, both_as, either_as}
+use Rattle.model.proofs.Loops.{found_here, not_here, not_found, either_as}
 use Rattle.engine.proofs.line.has_read_absent.Goals as goal
 
 pub returns-then-is_absent : goal.returns-then-is_absent

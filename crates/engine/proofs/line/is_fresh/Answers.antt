@@ -1,8 +1,8 @@
 -- The loop stops at the first entry of the line.
-use Rattle.std.proofs.Common.{true, false, not, ◌&&◌, ◌||◌, eqb, get_or, refl, ap}
+use Rattle.std.proofs.Common.{false, eqb}
 use Rattle.model.specs.Hazards.{fresh}
 use Rattle.model.proofs.Loops.{both_as'}
-use Rattle.model.proofs.Loops.{found_here, not_here, not_found, both_as, either_as}
+use Rattle.model.proofs.Loops.{found_here, not_here, not_found}
 use Rattle.engine.proofs.line.is_fresh.Goals as goal
 
 pub returns-then-is_of : goal.returns-then-is_of

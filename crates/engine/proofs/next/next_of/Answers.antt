@@ -1,8 +1,7 @@
 -- By the kind of the command and what its line has read.
-use Rattle.std.proofs.Common.{◌-◌, cond, sym, ap, ◌∙◌, arith}
+use Rattle.std.proofs.Common.{◌-◌, cond, ap, ◌∙◌, arith}
 use Rattle.model.specs.Commands.{reads, is_yes, listed}
-use Rattle.model.specs.Hazards.{has_read}
-use Rattle.model.specs.declared.command.Kind.TheVariants.{Copy, Join, Gather, Choose, Tally, Check}
+use Rattle.model.specs.declared.command.Kind.TheVariants.{Copy, Join, Choose, Tally, Check}
 use Rattle.pool.specs.Contents.{meant}
 use Rattle.engine.specs.Nexts.{wanted, gather_next}
 use Rattle.engine.proofs.Nexts.{read_none, read_one, read_only, read_two, by_kind, first_read, gather_wanted, some_length}

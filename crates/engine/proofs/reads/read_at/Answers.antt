@@ -1,7 +1,4 @@
 -- An entry is a read of the line, or not.
-use Rattle.std.specs.List.{slice_get}
-use Rattle.engine.specs.Reads.{numbers}
-use Rattle.std.proofs.Common.{◌≡◌, sym, ap, ◌∙◌}
 use Rattle.engine.proofs.Loops.{numbers_read, numbers_pass, numbers_end, nth_here, nth_next, nth_same}
 use Rattle.engine.proofs.reads.read_at.Goals as goal
 use Rattle.engine.proofs.reads.read_at.Goals.{then-is_read+else-left-eq0, else-is_read}

@@ -1,5 +1,5 @@
 -- Each read is the one that the command wants next, and then the write.
-use Rattle.std.proofs.Common.{◌≡◌, ◌<◌, [], ◌∷◌, ◌++◌, length, get_or, sym, refl, ap, ◌∙◌, arith}
+use Rattle.std.proofs.Common.{◌≡◌, [], ◌∷◌, ◌++◌, length, get_or, ap, ◌∙◌, arith}
 use Rattle.std.proofs.lemmas.List.{length_push}
 use Rattle.lists.specs.Held.{held, room}
 use Rattle.model.specs.declared.record.Use.{Use}

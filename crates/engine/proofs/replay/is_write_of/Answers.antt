@@ -1,9 +1,8 @@
 -- The bytes of the text are those of the recorded content.
-use Rattle.std.proofs.Common.{◌≡◌, sym, refl, ap, ◌∙◌, arith}
+use Rattle.std.proofs.Common.{ap, ◌∙◌, arith}
 use Rattle.std.specs.Str.{bytes_eq}
 use Rattle.lists.specs.Held.{held, room}
 use Rattle.pool.specs.Contents.{meant}
-use Rattle.model.specs.Contents.{content}
 use Rattle.engine.specs.Nexts.{spelled}
 use Rattle.engine.proofs.Replays.{too_long, all_fits, made_is}
 use Rattle.engine.proofs.replay.is_write_of.Goals as goal

@@ -1,9 +1,9 @@
 -- The loop stops at the first number that the pool lacks.
-use Rattle.std.proofs.Common.{true, false, not, ◌&&◌, ◌||◌, eqb, get_or, refl, ap}
+use Rattle.std.proofs.Common.{false, not, ap}
 use Rattle.model.specs.Contents.{holds}
 use Rattle.model.specs.Step.{all_held}
 use Rattle.pool.specs.Contents.{meant}
-use Rattle.model.proofs.Loops.{found_here, not_here, not_found, both_as, either_as}
+use Rattle.model.proofs.Loops.{found_here, not_here, not_found, both_as}
 use Rattle.engine.proofs.skipping.are_held.Goals as goal
 
 pub returns-then-not-holds : goal.returns-then-not-holds

@@ -1,7 +1,7 @@
 -- The loop stops at the first file that has another number.
-use Rattle.std.proofs.Common.{true, false, not, ◌&&◌, ◌||◌, eqb, get_or, refl, ap}
+use Rattle.std.proofs.Common.{false, not, eqb, get_or, ap}
 use Rattle.model.specs.Step.{match}
-use Rattle.model.proofs.Loops.{found_here, not_here, not_found, both_as, either_as}
+use Rattle.model.proofs.Loops.{found_here, not_here, not_found, both_as}
 use Rattle.engine.proofs.skipping.do_match.Goals as goal
 
 pub returns-then-not-is_now : goal.returns-then-not-is_now

@@ -1,5 +1,5 @@
 -- Each recorded act is noted, and the first hazard stops.
-use Rattle.std.proofs.Common.{length, sym, refl, ap, ◌∙◌, arith}
+use Rattle.std.proofs.Common.{length, ap, ◌∙◌, arith}
 use Rattle.std.proofs.lemmas.List.{length_push}
 use Rattle.lists.specs.Held.{held}
 use Rattle.engine.proofs.Skips.{skip_met, skip_more, last_met, last_goes}

@@ -1,5 +1,5 @@
 -- By the sort of text: one content, two, all that was gathered, or four bytes.
-use Rattle.std.proofs.Common.{◌≡◌, ◌++◌, sym, refl, ap, ◌∙◌}
+use Rattle.std.proofs.Common.{◌++◌, sym, ap, ◌∙◌}
 use Rattle.lists.specs.Held.{held, room}
 use Rattle.pool.specs.Contents.{meant}
 use Rattle.engine.specs.Fits.{fitting}

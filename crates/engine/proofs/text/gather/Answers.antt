@@ -1,9 +1,8 @@
 -- One content more fits, or the whole does not.
-use Rattle.std.proofs.Common.{◌≡◌, ◌≤◌, ◌++◌, length, Some, None, sym, refl, ap, ◌∙◌, arith}
+use Rattle.std.proofs.Common.{◌≤◌, ◌++◌, length, ap, ◌∙◌, arith}
 use Rattle.std.proofs.lemmas.List.{length-take}
 use Rattle.lists.specs.Held.{held, room}
 use Rattle.pool.specs.Contents.{meant}
-use Rattle.model.specs.Contents.{content}
 use Rattle.engine.specs.Fits.{fitting}
 use Rattle.engine.specs.Reads.{numbers}
 use Rattle.engine.proofs.Loops.{numbers_short}

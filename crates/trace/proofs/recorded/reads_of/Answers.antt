@@ -1,5 +1,5 @@
 -- A count above 16 counts as 16.
-use Rattle.std.proofs.Common.{◌≡◌, min, length, take, sym, arith}
+use Rattle.std.proofs.Common.{min, sym, arith}
 use Rattle.std.proofs.lemmas.List.{take_all}
 use Rattle.trace.proofs.recorded.reads_of.Goals as goal
 

@@ -1,6 +1,6 @@
 -- The record says the same reads and write, with other numbers.
-use Rattle.std.proofs.Common.{◌≡◌, min, map, length, take, sym, ap, ◌∙◌, arith}
-use Rattle.model.specs.Records.{Record, said}
+use Rattle.std.proofs.Common.{◌≡◌, min, map, length, take, ap, ◌∙◌, arith}
+use Rattle.model.specs.Records.{said}
 use Rattle.model.specs.Load.{numbered}
 use Rattle.model.specs.declared.record.Standing.TheVariants.{Hint}
 use Rattle.pool.specs.Contents.{meant}

@@ -1,5 +1,5 @@
 -- Past the last there are no bytes.
-use Rattle.std.proofs.Common.{[], map, sym, ◌∙◌, arith}
+use Rattle.std.proofs.Common.{[], map, sym, arith}
 use Rattle.std.proofs.lemmas.List.{length-map, get_or-map, get_or_past}
 use Rattle.trace_load.proofs.hints.content_at.Goals as goal
 

@@ -1,5 +1,5 @@
 -- The reads get their numbers one after the other.
-use Rattle.std.proofs.Common.{◌≡◌, [], ◌∷◌, ◌++◌, map, length, get_or, take, sym, refl, ap, ◌∙◌, arith}
+use Rattle.std.proofs.Common.{◌≡◌, [], ◌∷◌, ◌++◌, map, length, take, sym, refl, ap, ◌∙◌, arith}
 use Rattle.model.specs.Load.{numbered}
 use Rattle.pool.specs.Contents.{meant}
 use Rattle.std.proofs.lemmas.List.{length-set, take_more_set, take_all, map_more}

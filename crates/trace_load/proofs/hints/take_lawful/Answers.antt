@@ -1,7 +1,6 @@
 -- The places are counted before anything changes.
-use Rattle.std.proofs.Common.{◌≡◌, Bool, true, false, map, length, sym, refl, ap, ◌∙◌, arith}
+use Rattle.std.proofs.Common.{true, false, map, length, sym, refl, ap, ◌∙◌, arith}
 use Rattle.lists.specs.Held.{held, room}
-use Rattle.model.specs.Records.{said}
 use Rattle.pool.specs.Contents.{meant}
 use Rattle.std.proofs.lemmas.Bool.{leb-true}
 use Rattle.trace.specs.Told.{coming}

@@ -1,12 +1,12 @@
 -- The bytes are refused, or the pool, or the book; or all is taken.
-use Rattle.std.proofs.Common.{map, length, sym, refl, ◌∙◌}
+use Rattle.std.proofs.Common.{map, refl}
 use Rattle.std.proofs.lemmas.Result.{err_from_is_err_and}
 use Rattle.lists.specs.Held.{held, room}
 use Rattle.model.specs.Records.{said}
 use Rattle.pool.specs.Contents.{meant}
 use Rattle.trace.specs.Format.{decoded}
 use Rattle.trace.specs.Told as told
-use Rattle.trace_load.proofs.Loads.{refused, pool_full, book_full, all_taken}
+use Rattle.trace_load.proofs.Loads.{pool_full, book_full}
 use Rattle.trace_load.proofs.loading.load_bytes.Goals as goal
 
 pub returns-in_err-put_contents : goal.returns-in_err-put_contents

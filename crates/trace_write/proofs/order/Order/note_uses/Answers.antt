@@ -1,5 +1,5 @@
 -- The uses are listed one after the other.
-use Rattle.std.proofs.Common.{◌+◌, map, get_or, drop, sym, refl, ap, ◌∙◌, arith}
+use Rattle.std.proofs.Common.{◌+◌, map, drop, sym, refl, ap, ◌∙◌, arith}
 use Rattle.std.proofs.ByRecursion.{All-get_or}
 use Rattle.std.proofs.lemmas.List.{at_drop_more, at_drop_all}
 use Rattle.trace.specs.Reads.{after}

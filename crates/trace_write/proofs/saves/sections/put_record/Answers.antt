@@ -1,10 +1,9 @@
 -- The fields of a record are written one after the other.
-use Rattle.std.proofs.Common.{◌+◌, [], ◌∷◌, ◌++◌, length, sym, ap, ◌∙◌, arith}
-use Rattle.model.specs.Records.{said}
+use Rattle.std.proofs.Common.{[], ◌∷◌, ◌++◌, length, ap, ◌∙◌, arith}
 use Rattle.std.proofs.lemmas.List.{length-append}
 use Rattle.std.specs.List.{flat_map}
 use Rattle.trace.specs.Format.{command_bytes}
-use Rattle.trace_write.proofs.Sizes.{fields, fields_are, fields_size, record_size, uses_size}
+use Rattle.trace_write.proofs.Sizes.{fields, fields_are, record_size, uses_size}
 use Rattle.trace_write.proofs.Writes.{two_writes}
 use Rattle.trace_write.proofs.saves.sections.put_record.Goals as goal
 use Rattle.trace_write.specs.Puts.{put, use_of}

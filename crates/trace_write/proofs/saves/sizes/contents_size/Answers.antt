@@ -1,5 +1,5 @@
 -- The sizes of the contents are added up.
-use Rattle.std.proofs.Common.{◌+◌, length, get_or, ap, arith}
+use Rattle.std.proofs.Common.{length, get_or, ap, arith}
 use Rattle.pool.specs.Contents.{meant}
 use Rattle.trace_write.proofs.Sizes.{content_size, sum_none, sum_more, sum_all}
 use Rattle.trace_write.proofs.saves.sizes.contents_size.Goals as goal

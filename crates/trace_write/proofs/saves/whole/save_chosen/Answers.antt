@@ -1,5 +1,5 @@
 -- What is chosen has its contents in the pool; it is written, and is read back.
-use Rattle.std.proofs.Common.{map, sym, ap, ◌∙◌}
+use Rattle.std.proofs.Common.{map, ap, ◌∙◌}
 use Rattle.model.specs.Records.{said}
 use Rattle.pool.specs.Contents.{meant}
 use Rattle.pool.proofs.Sounds.{sound}
