@@ -14,8 +14,9 @@ use Rattle.model.specs.declared.answers.Built.{Built}
 use Rattle.model.specs.declared.command.Command.{Command}
 use Rattle.model.specs.declared.run.Stop.{Stop}
 use Rattle.model.proofs.Plain.{front_build_counted}
-use Rattle.report.specs.Report.{kept_words, stopped-words, text_line, held_line, file_lines, report_with, report_bytes}
+use Rattle.report.specs.Report.{held_line, file_lines, report_bytes}
 use Rattle.releasing.specs.Printed.{build_report}
+use Rattle.releasing.specs.Words.{kept_words, stopped_words, text_line, report_with}
 use Rattle.releasing.proofs.Widths.{order_width}
 
 -- the lines of the files depend on nothing but what each file's number stands for
@@ -58,7 +59,7 @@ module _ (labels : List (List ℕ)) (cs : List Command) (u v : World) (past : Pa
       by (Err (Stopped y b)) (goes s) e calls ends back = absurd ends
       by (Err (Stopped y b)) (stops s x) e calls ends back =
           let found = back y b refl in
-          ap (λ z. report_with (stopped-words z) labels v.pool v.files) ends.0
-          ∙ ap (λ p. report_with (stopped-words x) labels p v.files) found.1
-          ∙ ap (report_with (stopped-words x) labels u.pool) found.0
+          ap (λ z. report_with (stopped_words z) labels v.pool v.files) ends.0
+          ∙ ap (λ p. report_with (stopped_words x) labels p v.files) found.1
+          ∙ ap (report_with (stopped_words x) labels u.pool) found.0
       by (Err (By r)) t e calls ends back = absurd (not_refused accepted calls)

@@ -1,5 +1,5 @@
 -- What an audit comes to, over the records of the code.
-use Rattle.std.proofs.Common.{◌≡◌, ℕ, zero, suc, true, false, List, [], ◌∷◌, map, set, Some, None, Ok, Err, Option, sym, refl, ap, ◌∙◌, subst, arith}
+use Rattle.std.proofs.Common.{◌≡◌, ℕ, zero, suc, true, false, List, [], ◌∷◌, map, set, Some, None, Ok, Err, Option, sym, refl, ap, ◌∙◌, subst}
 use Rattle.std.specs.Option.{option_map}
 use Rattle.std.specs.List.{slice_get}
 use Rattle.lists.specs.Altered.{altered}
@@ -7,7 +7,7 @@ use Rattle.model.specs.Audit.{finding, judged, at_place, Audited}
 use Rattle.model.specs.Calls.{on_audit}
 use Rattle.model.specs.Contents.{Pool}
 use Rattle.model.specs.Promise.{Promised}
-use Rattle.model.specs.Records.{Record, said}
+use Rattle.model.specs.Records.{said}
 use Rattle.model.specs.World.{World, stocked}
 use Rattle.model.specs.declared.record.Record as Code
 use Rattle.model.specs.declared.record.Standing.{Standing}

@@ -1,7 +1,7 @@
 -- What a begin comes to: a blank ticket with its refusal, or an open run.
 use Rattle.std.proofs.Common.{◌≡◌, ◌≤◌, List, length, Some, None, sym}
 use Rattle.model.specs.Begin.{Ticket, begin_refusal, begun}
-use Rattle.model.specs.Calls.{Did, on_begin}
+use Rattle.model.specs.Calls.{on_begin}
 use Rattle.model.specs.Promise.{Promised}
 use Rattle.model.specs.World.{World}
 use Rattle.model.specs.declared.command.Command.{Command}

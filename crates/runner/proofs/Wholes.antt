@@ -1,5 +1,5 @@
 -- A run that is closed at its end, with the wish to keep, is a whole run; and a build is made of one or two of them.
-use Rattle.std.proofs.Common.{◌≡◌, ℕ, ◌+◌, true, List, Some, None, Ok, Err, Option, Result, sym, refl, ap, ◌∙◌, subst, arith}
+use Rattle.std.proofs.Common.{◌≡◌, ℕ, ◌+◌, List, Some, None, Ok, Err, Option, Result, sym, refl, ap, ◌∙◌, subst, arith}
 use Rattle.model.specs.Begin.{Ticket}
 use Rattle.model.specs.Build.{executed, skipped, end, answer, Builds, refused, once, twice}
 use Rattle.model.specs.Calls.{Did, on_begin, on_close}
@@ -16,7 +16,7 @@ use Rattle.model.specs.declared.answers.Wish.TheVariants.{Keep}
 use Rattle.model.specs.declared.command.Command.{Command}
 use Rattle.model.specs.declared.refusal.Refusal.{Refusal}
 use Rattle.model.specs.declared.run.Stop.{Stop}
-use Rattle.model.proofs.Again.{begins_again}
+use Rattle.model.proofs.Again.{begins_anywhere}
 use Rattle.model.proofs.Promises.{build_promised}
 use Rattle.runner.specs.Ends.{Begun, Counted, Over, WholeRun, stop_told}
 
@@ -63,7 +63,7 @@ module _ (cs : List Command) (m n : ℕ) (u v : World) where
     pub live_again : (t : Ticket) (x : World) → Did (on_begin cs t) v x → t ≡ None
     live_again None x d = refl
     live_again (Some r) x d =
-        let accepts = begins_again u v cs m n y first.run in
+        let accepts = begins_anywhere u v cs m n y first.run in
         let refuses = d.does.0 in
         let z : ◌≡◌ {A = ℕ} 0 1 = cc in
         absurd (omega arith)

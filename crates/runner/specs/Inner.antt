@@ -1,5 +1,5 @@
 -- What is always so of a log.
-use Rattle.std.specs.Prelude.{◌≡◌, ℕ, suc, ◌+◌, ◌*◌, ◌<◌, ◌≤◌, Bool, true, false, cond, ◌&&◌, List, [], ◌∷◌, length, ◌==◌, nat_lt, slice_index_or}
+use Rattle.std.specs.Prelude.{◌≡◌, ℕ, suc, ◌+◌, ◌*◌, ◌<◌, ◌≤◌, Bool, true, cond, ◌&&◌, List, [], ◌∷◌, ◌==◌, nat_lt, slice_index_or}
 use Rattle.lists.specs.Held.{held, room}
 use Rattle.model.specs.Hazards.{fresh, ended}
 use Rattle.model.specs.declared.run.Entry.{Entry}

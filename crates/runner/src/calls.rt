@@ -6,6 +6,7 @@ ghost use Rattle.model.specs.Calls.{on_lay, on_load, on_audit, on_begin};
 ghost use Rattle.model.specs.Promise.{Promised, StepPromised, ClosePromised, BuildPromised};
 ghost use Rattle.model.specs.Records.{Record as RecordMeant};
 ghost use Rattle.pool.specs.Contents.{meant};
+ghost use Rattle.script.specs.Haves.{haves_of};
 ghost use Rattle.script.specs.Scripts.{meaning};
 ghost use Rattle.trace.specs.Format.{decoded};
 ghost use Rattle.trace_write.specs.Laws.{RoundTrip};
@@ -30,7 +31,7 @@ pub fn lay<F: FileStore>(
     pool: &mut Pool,
     log: &Log,
 ) -> Result<(), Refusal>
-    ensures { (rs : List RecordMeant) (n : ℕ) → Promised (on_lay (meaning script.now).haves result) (world_of (F.FileStore.map files.old) (meant pool.old) log.now.inner rs n) (world_of (F.FileStore.map files.new) (meant pool.new) log.now.inner rs n) }
+    ensures { (rs : List RecordMeant) (n : ℕ) → Promised (on_lay (haves_of (meaning script.now).haves) result) (world_of (F.FileStore.map files.old) (meant pool.old) log.now.inner rs n) (world_of (F.FileStore.map files.new) (meant pool.new) log.now.inner rs n) }
 {
     log.lay(script, files, pool)
 }

@@ -3,3 +3,4 @@ pub mod Words
 pub mod Views
 pub mod Sound
 pub mod Scripts
+pub mod Haves

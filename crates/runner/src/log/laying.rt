@@ -4,6 +4,7 @@ ghost use Rattle.model.specs.Lay.{laid};
 ghost use Rattle.model.specs.Promise.{Promised};
 ghost use Rattle.model.specs.Records.{Record as RecordMeant};
 ghost use Rattle.pool.specs.Contents.{meant};
+ghost use Rattle.script.specs.Haves.{haves_of};
 ghost use Rattle.script.specs.Scripts.{meaning};
 ghost use Rattle.runner.specs.Stocks.{lay_told, files_laid, pool_laid};
 ghost use Rattle.runner.specs.Views.{world_of};
@@ -16,9 +17,9 @@ use script::Script;
 
 /// Puts each starting content into the pool and sets its file; where the pool refuses one, both are as they were.
 fn put_starts<F: FileStore>(script: &Script, files: &mut F, pool: &mut Pool) -> Result<(), Refusal>
-    ensures value { result ≡ lay_told (laid (meaning script.now).haves (F.FileStore.map files.old) (meant pool.old)) }
-    ensures files { F.FileStore.map files.new ≡ files_laid (laid (meaning script.now).haves (F.FileStore.map files.old) (meant pool.old)) (F.FileStore.map files.old) }
-    ensures pool { meant pool.new ≡ pool_laid (laid (meaning script.now).haves (F.FileStore.map files.old) (meant pool.old)) (meant pool.old) }
+    ensures value { result ≡ lay_told (laid (haves_of (meaning script.now).haves) (F.FileStore.map files.old) (meant pool.old)) }
+    ensures files { F.FileStore.map files.new ≡ files_laid (laid (haves_of (meaning script.now).haves) (F.FileStore.map files.old) (meant pool.old)) (F.FileStore.map files.old) }
+    ensures pool { meant pool.new ≡ pool_laid (laid (haves_of (meaning script.now).haves) (F.FileStore.map files.old) (meant pool.old)) (meant pool.old) }
 {
     let mut before = Table::new();
     copy_all(files, &mut before);
@@ -46,7 +47,7 @@ impl<'a> Log<'a> {
         files: &mut F,
         pool: &mut Pool,
     ) -> Result<(), Refusal>
-        ensures { (rs : List RecordMeant) (n : ℕ) → Promised (on_lay (meaning script.now).haves result) (world_of (F.FileStore.map files.old) (meant pool.old) self.now.inner rs n) (world_of (F.FileStore.map files.new) (meant pool.new) self.now.inner rs n) }
+        ensures { (rs : List RecordMeant) (n : ℕ) → Promised (on_lay (haves_of (meaning script.now).haves) result) (world_of (F.FileStore.map files.old) (meant pool.old) self.now.inner rs n) (world_of (F.FileStore.map files.new) (meant pool.new) self.now.inner rs n) }
     {
         if self.is_open() {
             return Err(Refusal::RunOpen);

@@ -22,20 +22,20 @@ returns-then-len-places c =
       places = c.push.ensures.room;
     }
 
-pub returns-in-Some-free-place : goal.returns-in-Some-free-place
-returns-in-Some-free-place c =
+pub returns-in-Some-free_place : goal.returns-in-Some-free_place
+returns-in-Some-free_place c =
     let b = c.args.self.now in
     let h : places b ≤ length (held b.list) = omega arith in
     record {
-      records = kept_freed c.args.commands.now (places b) c.args.own (held b.list) (held c.replace-in-Some-free-place.new.self) c.replace-in-Some-free-place.result c.in-Some-free-place.at c.in_default.ensures h c.in-Some-free-place.ensures c.replace-in-Some-free-place.ensures.fits c.replace-in-Some-free-place.ensures.held;
-      places = c.replace-in-Some-free-place.ensures.room;
+      records = kept_freed c.args.commands.now (places b) c.args.own (held b.list) (held c.replace-in-Some-free_place.new.self) c.replace-in-Some-free_place.result c.in-Some-free_place.at c.in_default.ensures h c.in-Some-free_place.ensures c.replace-in-Some-free_place.ensures.fits c.replace-in-Some-free_place.ensures.held;
+      places = c.replace-in-Some-free_place.ensures.room;
     }
 
-pub returns-in_default-free-place : goal.returns-in_default-free-place
-returns-in_default-free-place c =
+pub returns-in_default-free_place : goal.returns-in_default-free_place
+returns-in_default-free_place c =
     let b = c.args.self.now in
     let h : places b ≤ length (held b.list) = omega arith in
     record {
-      records = kept_out c.args.commands.now (places b) c.args.own (held b.list) c.in_default.ensures h c.in_default-free-place.ensures;
+      records = kept_out c.args.commands.now (places b) c.args.own (held b.list) c.in_default.ensures h c.in_default-free_place.ensures;
       places = refl;
     }

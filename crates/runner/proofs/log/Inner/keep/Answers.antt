@@ -6,5 +6,5 @@ pub returns : goal.returns
 returns c =
     record {
       kept = record { roomy = c.requires.roomy; inside = c.requires.inside; few = c.requires.few; follows = c.requires.follows };
-      world = λ fs p. same_closed fs p c.args.self.now _ _ _ _ (c.give-records.ensures.records fs p) c.give-records.ensures.places;
+      world = λ fs p. same_closed fs p c.args.self.now _ _ _ _ (c.give_records.ensures.records fs p) c.give_records.ensures.places;
     }

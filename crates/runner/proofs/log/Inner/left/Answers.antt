@@ -2,7 +2,7 @@
 use Rattle.std.proofs.Common.{◌<◌, length, arith}
 use Rattle.runner.proofs.Left.{none_yet, taken_out, stays_in, all_left}
 use Rattle.runner.proofs.log.Inner.left.Goals as goal
-use Rattle.runner.proofs.log.Inner.left.Goals.{then-has-ended, else-has-ended}
+use Rattle.runner.proofs.log.Inner.left.Goals.{then-has_ended, else-has_ended}
 
 pub loop-line-init : goal.loop-line-init
 loop-line-init c = none_yet c.args.self.now.run.lines c.args.self.now.run.states c.below-set.result c.args.self.now.run.few c.below-set.ensures
@@ -11,9 +11,9 @@ pub loop-line-preserved : goal.loop-line-preserved
 loop-line-preserved c =
     let run = c.args.self.now.run in
     let lt : c.loop-line.line < length run.states = let w = run.wide in let t = c.loop-line-test.true in omega arith in
-    elim c.if-has-ended.branch [
-      | then-has-ended w ↦ rw w.set-is (taken_out run.lines run.states c.loop-line.line c.loop-line.set c.loop-line.invariant _ lt w.remove.new.self w.if-has-ended.ensures w.remove.ensures)
-      | else-has-ended w ↦ rw w.set-is (stays_in run.lines run.states c.loop-line.line c.loop-line.set c.loop-line.invariant _ lt w.if-has-ended.ensures)
+    elim c.if-has_ended.branch [
+      | then-has_ended w ↦ rw w.set-is (taken_out run.lines run.states c.loop-line.line c.loop-line.set c.loop-line.invariant _ lt w.remove.new.self w.if-has_ended.ensures w.remove.ensures)
+      | else-has_ended w ↦ rw w.set-is (stays_in run.lines run.states c.loop-line.line c.loop-line.set c.loop-line.invariant _ lt w.if-has_ended.ensures)
     ]
 
 pub returns : goal.returns

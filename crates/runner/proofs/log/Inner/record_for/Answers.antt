@@ -6,27 +6,27 @@ use Rattle.runner.specs.Views.{records, places}
 use Rattle.runner.proofs.Works.{not_waiting, not_found, by_tests}
 use Rattle.runner.proofs.log.Inner.record_for.Goals as goal
 
-pub returns-then-not-is-waiting : goal.returns-then-not-is-waiting
-returns-then-not-is-waiting g c =
+pub returns-then-not-is_waiting : goal.returns-then-not-is_waiting
+returns-then-not-is_waiting g c =
     not_waiting c.args.self.now c.args.line c.requires.left (g.F.FileStore.map c.args.files.now) (meant c.args.pool.now) (records c.args.book.now) (places c.args.book.now) c.requires.kept _
-    c.if-not-is-waiting.ensures
+    c.if-not-is_waiting.ensures
 
 pub returns-in_default : goal.returns-in_default
 returns-in_default g c =
     not_found c.args.self.now c.args.line c.requires.left (g.F.FileStore.map c.args.files.now) (meant c.args.pool.now) (records c.args.book.now) (places c.args.book.now) c.requires.kept _
-    _ c.if-not-is-waiting.ensures c.in_default.ensures
+    _ c.if-not-is_waiting.ensures c.in_default.ensures
 
-pub returns-then-not-is-own : goal.returns-then-not-is-own
-returns-then-not-is-own g c =
+pub returns-then-not-is_own : goal.returns-then-not-is_own
+returns-then-not-is_own g c =
     by_tests c.args.self.now c.args.line c.requires.left (g.F.FileStore.map c.args.files.now) (meant c.args.pool.now) (records c.args.book.now) (places c.args.book.now) c.requires.kept _
-    _ (said c.in-Some.record) false _ (said c.in-Some.record).reads c.if-not-is-waiting.ensures c.in-Some.ensures c.if-not-is-own.ensures refl refl
+    _ (said c.in-Some.record) false _ (said c.in-Some.record).reads c.if-not-is_waiting.ensures c.in-Some.ensures c.if-not-is_own.ensures refl refl
 
-pub returns-then-not-can-skip : goal.returns-then-not-can-skip
-returns-then-not-can-skip g c =
+pub returns-then-not-can_skip : goal.returns-then-not-can_skip
+returns-then-not-can_skip g c =
     by_tests c.args.self.now c.args.line c.requires.left (g.F.FileStore.map c.args.files.now) (meant c.args.pool.now) (records c.args.book.now) (places c.args.book.now) c.requires.kept _
-    _ (said c.in-Some.record) true false c.reads.result.now c.if-not-is-waiting.ensures c.in-Some.ensures c.if-not-is-own.ensures c.reads.ensures.value c.if-not-can-skip.ensures
+    _ (said c.in-Some.record) true false c.reads.result.now c.if-not-is_waiting.ensures c.in-Some.ensures c.if-not-is_own.ensures c.reads.ensures.value c.if-not-can_skip.ensures
 
 pub returns : goal.returns
 returns g c =
     by_tests c.args.self.now c.args.line c.requires.left (g.F.FileStore.map c.args.files.now) (meant c.args.pool.now) (records c.args.book.now) (places c.args.book.now) c.requires.kept _
-    _ (said c.in-Some.record) true true c.reads.result.now c.if-not-is-waiting.ensures c.in-Some.ensures c.if-not-is-own.ensures c.reads.ensures.value c.if-not-can-skip.ensures
+    _ (said c.in-Some.record) true true c.reads.result.now c.if-not-is_waiting.ensures c.in-Some.ensures c.if-not-is_own.ensures c.reads.ensures.value c.if-not-can_skip.ensures

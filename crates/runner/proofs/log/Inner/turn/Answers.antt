@@ -10,5 +10,5 @@ returns c =
       entries = refl;
       lines = refl;
       opened = refl;
-      notes = λ fs. turned c.args.self.now.run c.args.line c.args.stop (meant c.args.pool.now) _ _ c.as-slice.ensures _ _ c.requires c.line-state-state.ensures;
+      notes = λ fs. turned c.args.self.now.run c.args.line c.args.stop (meant c.args.pool.now) _ _ c.as_slice.ensures _ _ c.requires c.line_state-state.ensures;
     }

@@ -1,25 +1,20 @@
 -- The policy is asked of the lines that are left, and the line that it answers is worked on; before that the step can be refused.
 use Rattle.std.proofs.Common.{sym, refl}
-use Rattle.model.specs.Policies.{Asked}
-use Rattle.model.specs.World.{World}
 use Rattle.policy.specs.Lines.{has}
-use Rattle.pool.specs.Contents.{meant}
-use Rattle.runner.specs.Views.{world}
 use Rattle.runner.proofs.Asks.{refused_by, blank, shut, stopped, over, worked}
-use Rattle.runner.proofs.log.Log.advance.Given as given
 use Rattle.runner.proofs.log.Log.advance.Goals as goal
 
 pub returns-in-Some : goal.returns-in-Some
 returns-in-Some g c = record { promise = refused_by _ _ _ _ (blank _ _ c.in-Some.refusal (sym c.in-Some.ensures)) refl; same = refl; unasked = refl }
 
-pub returns-then-not-is-open : goal.returns-then-not-is-open
-returns-then-not-is-open g c =
-    record { promise = refused_by _ _ _ _ (shut _ _ (sym c.in_default.ensures) (sym c.if-not-is-open.ensures)) refl; same = refl; unasked = refl }
+pub returns-then-not-is_open : goal.returns-then-not-is_open
+returns-then-not-is_open g c =
+    record { promise = refused_by _ _ _ _ (shut _ _ (sym c.in_default.ensures) (sym c.if-not-is_open.ensures)) refl; same = refl; unasked = refl }
 
 pub returns-in-Some-stop : goal.returns-in-Some-stop
 returns-in-Some-stop g c =
     record {
-      promise = refused_by _ _ _ _ (stopped _ _ (sym c.in_default.ensures) (sym c.if-not-is-open.ensures) c.in-Some-stop.stop (sym c.in-Some-stop.ensures)) refl;
+      promise = refused_by _ _ _ _ (stopped _ _ (sym c.in_default.ensures) (sym c.if-not-is_open.ensures) c.in-Some-stop.stop (sym c.in-Some-stop.ensures)) refl;
       same = refl;
       unasked = refl;
     }
@@ -27,7 +22,7 @@ returns-in-Some-stop g c =
 pub returns-in_default-lowest : goal.returns-in_default-lowest
 returns-in_default-lowest g c =
     record {
-      promise = refused_by _ _ _ _ (over _ _ (sym c.in_default.ensures) (sym c.if-not-is-open.ensures) (sym c.in_default-stop.ensures) (has c.left-left.result) c.left-left.ensures c.in_default-lowest.ensures) refl;
+      promise = refused_by _ _ _ _ (over _ _ (sym c.in_default.ensures) (sym c.if-not-is_open.ensures) (sym c.in_default-stop.ensures) (has c.left-left.result) c.left-left.ensures c.in_default-lowest.ensures) refl;
       same = refl;
       unasked = refl;
     }
@@ -36,7 +31,7 @@ pub returns : goal.returns
 returns g c =
     record {
       promise =
-          worked _ _ (sym c.in_default.ensures) (sym c.if-not-is-open.ensures) (sym c.in_default-stop.ensures) (has c.left-left.result) c.left-left.ensures
+          worked _ _ (sym c.in_default.ensures) (sym c.if-not-is_open.ensures) (sym c.in_default-stop.ensures) (has c.left-left.result) c.left-left.ensures
           _ c.in-Some-lowest.front c.ask-line.result c.work.result _ c.in-Some-lowest.ensures c.ask-line.ensures.answers c.work.ensures.line c.work.ensures.skipped c.work.ensures.stop c.work.ensures.world;
       same = c.ask-line.ensures.same;
       unasked = tt;

@@ -8,12 +8,12 @@ returns-in-Some g c = record { promise = refused_build _ _ _ _ _ _ c.in-Some.ref
 
 pub returns-in_default-stop : goal.returns-in_default-stop
 returns-in_default-stop g c =
-    let run = c.run-whole-first.ensures.run _ _ (rw (sym c.in_default.ensures) at c.begin-ticket.ensures.did) in
-    record { promise = built_once _ _ _ _ _ _ _ _ _ c.in_default-stop.is run; same = c.run-whole-first.ensures.same }
+    let run = c.run_whole-first.ensures.run _ _ (rw (sym c.in_default.ensures) at c.begin-ticket.ensures.did) in
+    record { promise = built_once _ _ _ _ _ _ _ _ _ c.in_default-stop.is run; same = c.run_whole-first.ensures.same }
 
-pub run-whole-second-requires : goal.run-whole-second-requires
-run-whole-second-requires g c =
-    let run = c.run-whole-first.ensures.run _ _ (rw (sym c.in_default.ensures) at c.begin-ticket.ensures.did) in
+pub run_whole-second-requires : goal.run_whole-second-requires
+run_whole-second-requires g c =
+    let run = c.run_whole-first.ensures.run _ _ (rw (sym c.in_default.ensures) at c.begin-ticket.ensures.did) in
     let did = c.begin-again.ensures.did in
     record {
       live = live_again _ _ _ _ _ _ _ _ c.in-Some-stop.stop _ c.in-Some-stop.is run _ _ did;
@@ -22,8 +22,8 @@ run-whole-second-requires g c =
 
 pub returns : goal.returns
 returns g c =
-    let run = c.run-whole-first.ensures.run _ _ (rw (sym c.in_default.ensures) at c.begin-ticket.ensures.did) in
+    let run = c.run_whole-first.ensures.run _ _ (rw (sym c.in_default.ensures) at c.begin-ticket.ensures.did) in
     record {
-      promise = built_twice _ _ _ _ _ _ _ _ c.in-Some-stop.stop _ c.in-Some-stop.is run _ _ _ _ _ _ _ c.begin-again.ensures.did c.run-whole-second.ensures.run c.answer.result c.answer.ensures;
-      same = c.run-whole-first.ensures.same;
+      promise = built_twice _ _ _ _ _ _ _ _ c.in-Some-stop.stop _ c.in-Some-stop.is run _ _ _ _ _ _ _ c.begin-again.ensures.did c.run_whole-second.ensures.run c.answer.result c.answer.ensures;
+      same = c.run_whole-first.ensures.same;
     }

@@ -1,5 +1,5 @@
 -- The loop stops at the first number that is above.
-use Rattle.std.proofs.Common.{◌≡◌, ◌<◌, Bool, true, ◌||◌, ltb, length, get_or, sym, ap, ◌∙◌, arith}
+use Rattle.std.proofs.Common.{true, ltb, sym, ap, ◌∙◌, arith}
 use Rattle.std.proofs.lemmas.Bool.{lt-ltb, le-ltb}
 use Rattle.model.specs.Begin.{some_above}
 use Rattle.model.proofs.Loops.{found_here, not_here, not_found, either_as}

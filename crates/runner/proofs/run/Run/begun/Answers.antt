@@ -8,13 +8,14 @@ use Rattle.runner.proofs.run.Run.begun.Goals as goal
 abbrev blank : List Command
 blank = replicate 64 (record { kind = Copy; a = 0; b = 0; c = 0; d = 0 })
 
-pub invariant-of-result : goal.invariant-of-result
-invariant-of-result g c = (length_copied blank c.copy-from-slice.new.self c.args.commands.now c.copy-from-slice.ensures.after c.requires, (refl, (c.requires, tt)))
+pub invariant_of-result : goal.invariant_of-result
+invariant_of-result g c =
+    record { long = length_copied blank c.copy_from_slice.new.self c.args.commands.now c.copy_from_slice.ensures.after c.requires; wide = refl; few = c.requires }
 
 pub returns : goal.returns
 returns g c =
     record {
-      notes = same_notes _ _ _ _ c.args.count (take_copied c.copy-from-slice.new.self c.args.commands.now _ c.copy-from-slice.ensures.after) c.copy-all.ensures;
+      notes = same_notes _ _ _ _ c.args.count (take_copied c.copy_from_slice.new.self c.args.commands.now _ c.copy_from_slice.ensures.after) c.copy_all.ensures;
       opened = refl;
       lines = refl;
     }
