@@ -1,5 +1,6 @@
 -- One act of a line: its tests in order, and what it leaves.
-use Rattle.model.specs.Words.{Bool, true, false, cond, ◌&&◌, ◌||◌, List, [], ◌∷◌, ◌++◌, ℕ, zero, suc, eqb, leb, length, get_or, set, Option, Some, None, Entry, Fault, Stop, LineState}
+use Rattle.std.specs.Prelude.{◌&&◌, ◌||◌, ◌∷◌, ◌++◌}
+use Rattle.model.specs.Words.{Bool, true, false, cond, List, [], ℕ, zero, suc, eqb, leb, length, get_or, set, Option, Some, None, Entry, Fault, Stop, LineState}
 use Rattle.model.specs.declared.run.Hazard as Met
 use Rattle.model.specs.declared.run.Fault.TheVariants.{TooLong, NoRoom, Hazard, Absent, BadList}
 use Rattle.model.specs.declared.run.LineState.TheVariants.{Waiting, Reading, Writing, Ended}

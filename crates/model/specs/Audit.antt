@@ -1,5 +1,6 @@
 -- AUDIT replays the record in a place: a true one becomes own, another struck.
-use Rattle.model.specs.Words.{◌≡◌, cond, List, [], ◌∷◌, ℕ, zero, suc, set, Option, Some, None, Result, Ok, Refusal}
+use Rattle.std.specs.Prelude.{◌≡◌, ◌∷◌}
+use Rattle.model.specs.Words.{cond, List, [], ℕ, zero, suc, set, Option, Some, None, Result, Ok, Refusal}
 use Rattle.model.specs.declared.refusal.Refusal.TheVariants.{NoSuchRecord}
 use Rattle.model.specs.declared.record.Standing.TheVariants.{Own, Struck}
 use Rattle.model.specs.Contents.{Pool}

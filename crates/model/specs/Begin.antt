@@ -1,5 +1,6 @@
 -- BEGIN opens a run: it empties the log and notes the commands, the files and the pool's extent.
-use Rattle.model.specs.Words.{◌≡◌, Bool, true, false, cond, ◌||◌, List, [], ◌∷◌, ℕ, ◌*◌, ◌≤◌, ltb, length, replicate, Option, Some, None, Command, Refusal}
+use Rattle.std.specs.Prelude.{◌≡◌, ◌||◌, ◌∷◌, ◌*◌, ◌≤◌}
+use Rattle.model.specs.Words.{Bool, true, false, cond, List, [], ℕ, ltb, length, replicate, Option, Some, None, Command, Refusal}
 use Rattle.model.specs.declared.refusal.Refusal.TheVariants.{RunOpen, LogTooSmall, BookTooSmall, UnknownContent}
 use Rattle.model.specs.declared.run.LineState.TheVariants.{Waiting}
 use Rattle.model.specs.Contents.{count}

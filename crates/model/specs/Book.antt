@@ -1,5 +1,6 @@
 -- The rules of the book: which record a command has, and where a record goes.
-use Rattle.model.specs.Words.{Bool, true, false, cond, ◌&&◌, ◌||◌, List, [], ◌∷◌, ◌++◌, ℕ, suc, eqb, ltb, length, Option, Some, None, Command, Entry}
+use Rattle.std.specs.Prelude.{◌&&◌, ◌||◌, ◌∷◌, ◌++◌}
+use Rattle.model.specs.Words.{Bool, true, false, cond, List, [], ℕ, suc, eqb, ltb, length, Option, Some, None, Command, Entry}
 use Rattle.model.specs.declared.record.Standing.TheVariants.{Hint, Own, Struck}
 use Rattle.model.specs.Numbers.{kind_number}
 use Rattle.model.specs.Records.{Use, Record, Standing}

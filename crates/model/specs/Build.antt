@@ -1,5 +1,6 @@
 -- BUILD, by the smaller calls: one run under the policy, and where that stops, a second one in script order.
-use Rattle.model.specs.Words.{List, Bool, false, cond, not, ◌&&◌, ◌||◌, ℕ, ◌+◌, eqb, ltb, length, Option, Some, None, Result, Ok, Err, Command, Refusal, Stop, Stepped, Closed, CloseRefusal, Built, BuildRefusal}
+use Rattle.std.specs.Prelude.{◌&&◌, ◌||◌, ◌+◌}
+use Rattle.model.specs.Words.{List, Bool, false, cond, not, ℕ, eqb, ltb, length, Option, Some, None, Result, Ok, Err, Command, Refusal, Stop, Stepped, Closed, CloseRefusal, Built, BuildRefusal}
 use Rattle.model.specs.declared.answers.Wish.TheVariants.{Keep}
 use Rattle.model.specs.declared.answers.Closed.TheVariants.{Kept}
 use Rattle.model.specs.declared.answers.CloseRefusal.TheVariants as C

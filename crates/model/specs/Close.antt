@@ -1,5 +1,6 @@
 -- CLOSE ends a run: it is kept, or put back to what begin found.
-use Rattle.model.specs.Words.{◌≡◌, Bool, true, false, Option, Some, None, Result, Ok, Err, Refusal, Stop, Wish, Closed, CloseRefusal}
+use Rattle.std.specs.Prelude.{◌≡◌}
+use Rattle.model.specs.Words.{Bool, true, false, Option, Some, None, Result, Ok, Err, Refusal, Stop, Wish, Closed, CloseRefusal}
 use Rattle.model.specs.declared.refusal.Refusal.TheVariants.{LinesLeft, NoRun}
 use Rattle.model.specs.declared.answers.Wish.TheVariants as Wishes
 use Rattle.model.specs.declared.answers.Closed.TheVariants.{Kept, PutBack}

@@ -1,5 +1,6 @@
 -- What a line does next, given the contents that it has read so far, the oldest first.
-use Rattle.model.specs.Words.{Bool, true, false, cond, List, [], ◌∷◌, ◌++◌, ℕ, zero, suc, ◌/◌, ◌%◌, eqb, leb, length, drop, sameBytes, Option, Some, None, Kind, Command}
+use Rattle.std.specs.Prelude.{◌∷◌, ◌++◌, ◌/◌, ◌%◌}
+use Rattle.model.specs.Words.{Bool, true, false, cond, List, [], ℕ, zero, suc, eqb, leb, length, drop, bytes_eq, Option, Some, None, Kind, Command}
 use Rattle.model.specs.declared.command.Kind.TheVariants.{Copy, Join, Gather, Choose, Tally, Check}
 use Rattle.model.specs.Digits.{file_number}
 use Rattle.model.specs.Contents.{Content}
@@ -68,7 +69,7 @@ next Tally a b c d [] = reads a
 next Tally a b c d (x ∷ xs) = writes b (sheets (length x))
 next Check a b c d [] = reads a
 next Check a b c d (x ∷ []) = reads b
-next Check a b c d (x ∷ y ∷ xs) = writes c (verdict (sameBytes x y))
+next Check a b c d (x ∷ y ∷ xs) = writes c (verdict (bytes_eq x y))
 
 abbrev pub want : Command → List Content → Want
 want c = next c.kind c.a c.b c.c c.d

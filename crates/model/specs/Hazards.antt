@@ -1,5 +1,6 @@
 -- What the log's entries tell: what each line has done, and the hazards of a new act.
-use Rattle.model.specs.Words.{Bool, true, false, cond, not, ◌&&◌, ◌||◌, List, [], ◌∷◌, ℕ, eqb, ltb, Option, Some, None, Entry, HazardKind}
+use Rattle.std.specs.Prelude.{◌&&◌, ◌||◌, ◌∷◌}
+use Rattle.model.specs.Words.{Bool, true, false, cond, not, List, [], ℕ, eqb, ltb, Option, Some, None, Entry, HazardKind}
 use Rattle.model.specs.declared.run.HazardKind.TheVariants.{WriteWrite, ReadWrite, SpeculativeWriteRead}
 use Rattle.model.specs.declared.run.Hazard.{Hazard}
 use Rattle.model.specs.Contents.{Content, Pool, content}

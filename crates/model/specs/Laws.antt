@@ -1,5 +1,6 @@
 -- Further laws, which the calls and later pages stand on.
-use Rattle.model.specs.Words.{◌≡◌, List, [], ◌∷◌, ◌++◌, Bool, true, false, cond, not, ℕ, zero, suc, ◌+◌, ◌*◌, ◌≤◌, ◌<◌, eqb, length, get_or, Some, None, Ok, Command, Entry, Wish, Built}
+use Rattle.std.specs.Prelude.{◌≡◌, ◌∷◌, ◌++◌, ◌+◌, ◌*◌, ◌≤◌, ◌<◌}
+use Rattle.model.specs.Words.{List, [], Bool, true, false, cond, not, ℕ, zero, suc, eqb, length, get_or, Some, None, Ok, Command, Entry, Wish, Built}
 use Rattle.model.specs.declared.run.LineState.TheVariants.{Waiting}
 use Rattle.model.specs.declared.answers.Closed.TheVariants.{Kept}
 use Rattle.model.specs.Records.{Record}

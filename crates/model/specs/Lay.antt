@@ -1,5 +1,6 @@
 -- LAY puts starting contents into the pool and sets their files.
-use Rattle.model.specs.Words.{◌≡◌, cond, List, [], ◌∷◌, ℕ, eqb, set, Option, Some, None, Result, Ok, Refusal}
+use Rattle.std.specs.Prelude.{◌≡◌, ◌∷◌}
+use Rattle.model.specs.Words.{cond, List, [], ℕ, eqb, set, Option, Some, None, Result, Ok, Refusal}
 use Rattle.model.specs.declared.refusal.Refusal.TheVariants.{NoRoomToLay}
 use Rattle.model.specs.Contents.{Content, Pool, given, put}
 use Rattle.model.specs.World.{World, stocked, Refused, UnlessOpen}

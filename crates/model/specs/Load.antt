@@ -1,5 +1,6 @@
 -- LOAD puts the contents of a trace file into the pool, and takes its records into the book as hints.
-use Rattle.model.specs.Words.{◌≡◌, Bool, true, false, cond, List, [], ◌∷◌, map, ◌-◌, eqb, leb, length, get_or, Option, Some, None, Result, Ok, Err, Refusal}
+use Rattle.std.specs.Prelude.{◌≡◌, ◌∷◌, ◌-◌}
+use Rattle.model.specs.Words.{Bool, true, false, cond, List, [], map, eqb, leb, length, get_or, Option, Some, None, Result, Ok, Err, Refusal}
 use Rattle.model.specs.declared.refusal.Refusal.TheVariants.{NoRoomToLoad}
 use Rattle.model.specs.declared.record.Standing.TheVariants.{Hint}
 use Rattle.model.specs.Contents.{Content, Pool, find, given, put}

@@ -1,5 +1,6 @@
 -- Script order: the plain run that every kept run is held against. It has no book, no policy and no skip.
-use Rattle.model.specs.Words.{cond, List, [], ◌∷◌, ℕ, zero, suc, Command}
+use Rattle.std.specs.Prelude.{◌∷◌}
+use Rattle.model.specs.Words.{cond, List, [], ℕ, zero, suc, Command}
 use Rattle.model.specs.Contents.{Content, Pool}
 use Rattle.model.specs.Commands.{Want, want}
 use Rattle.model.specs.Hazards.{ended}

@@ -1,5 +1,6 @@
 -- Pasts: how a world came about, and what is read off that.
-use Rattle.model.specs.Words.{◌≡◌, List, [], Bool, cond, ◌&&◌, ℕ, ◌+◌, Some, None, Ok, Err, Command}
+use Rattle.std.specs.Prelude.{◌≡◌, ◌&&◌, ◌+◌}
+use Rattle.model.specs.Words.{List, [], Bool, cond, ℕ, Some, None, Ok, Err, Command}
 use Rattle.model.specs.Contents.{Pool}
 use Rattle.model.specs.World.{World, lines, Fresh}
 use Rattle.model.specs.Step.{left, all_ended}

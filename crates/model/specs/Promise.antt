@@ -1,6 +1,6 @@
 -- The promises, over every past.
-use Rattle.std.specs.Prelude.{◌≢◌}
-use Rattle.model.specs.Words.{◌≡◌, List, [], ◌∷◌, Bool, true, false, cond, ℕ, ◌+◌, ◌*◌, ◌≤◌, eqb, get_or, length, Option, Some, None, Result, Ok, Err, Command, Entry, Stop, Stepped, StepRefusal, Wish, Closed, CloseRefusal, Built, BuildRefusal}
+use Rattle.std.specs.Prelude.{◌≡◌, ◌∷◌, ◌+◌, ◌*◌, ◌≤◌, ◌≢◌}
+use Rattle.model.specs.Words.{List, [], Bool, true, false, cond, ℕ, eqb, get_or, length, Option, Some, None, Result, Ok, Err, Command, Entry, Stop, Stepped, StepRefusal, Wish, Closed, CloseRefusal, Built, BuildRefusal}
 use Rattle.model.specs.declared.record.Standing.TheVariants.{Own}
 use Rattle.model.specs.declared.answers.Closed.TheVariants.{Kept}
 use Rattle.model.specs.declared.answers.BuildRefusal.TheVariants.{By, Stopped}

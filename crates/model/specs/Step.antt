@@ -1,5 +1,6 @@
 -- STEP asks the policy once, and works on the line that it answers: a skip by an own record, or one act.
-use Rattle.model.specs.Words.{◌≡◌, Bool, true, false, cond, not, ◌&&◌, List, [], ◌∷◌, ℕ, zero, suc, eqb, ltb, get_or, set, Option, Some, None, Result, Ok, Err, Command, Entry, Stop, Stepped, StepRefusal}
+use Rattle.std.specs.Prelude.{◌≡◌, ◌&&◌, ◌∷◌}
+use Rattle.model.specs.Words.{Bool, true, false, cond, not, List, [], ℕ, zero, suc, eqb, ltb, get_or, set, Option, Some, None, Result, Ok, Err, Command, Entry, Stop, Stepped, StepRefusal}
 use Rattle.model.specs.declared.refusal.Refusal.TheVariants.{LinesEnded, NoRun}
 use Rattle.model.specs.declared.answers.StepRefusal.TheVariants.{By, Stopped}
 use Rattle.model.specs.Contents.{Pool, holds}

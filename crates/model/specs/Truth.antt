@@ -1,5 +1,6 @@
 -- When a record is true.
-use Rattle.model.specs.Words.{Bool, false, ◌&&◌, List, [], ◌∷◌, ◌++◌, ℕ, eqb, sameBytes}
+use Rattle.std.specs.Prelude.{◌&&◌, ◌∷◌, ◌++◌}
+use Rattle.model.specs.Words.{Bool, false, List, [], ℕ, eqb, bytes_eq}
 use Rattle.model.specs.Contents.{Content, Pool, holds, content}
 use Rattle.model.specs.Records.{Use, Record}
 use Rattle.model.specs.Commands.{Want, reads, writes, bad, want}
@@ -11,7 +12,7 @@ asks bad f = false
 
 abbrev pub makes : Want → ℕ → Content → Bool
 makes (reads g) f y = false
-makes (writes g x) f y = eqb f g && sameBytes y x
+makes (writes g x) f y = eqb f g && bytes_eq y x
 makes bad f y = false
 
 -- having read xs, a command that wants k goes on by exactly these reads and that write

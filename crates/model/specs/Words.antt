@@ -1,6 +1,6 @@
 -- The words of the library and of the code that these pages use.
-pub use Rattle.std.specs.Prelude.{◌≡◌, Bool, true, false, cond, ◌&&◌, ◌||◌, not, List, [], ◌∷◌, ◌++◌, map, ℕ, zero, suc, ◌*◌, ◌≤◌, ◌+◌, ◌/◌, ◌%◌, ◌<◌, ◌-◌, eqb, leb, ltb, length, get_or, set, replicate, drop}
-pub use Rattle.std.specs.Str.{bytes_eq as sameBytes}
+pub use Rattle.std.specs.Prelude.{Bool, true, false, cond, not, List, [], map, ℕ, zero, suc, eqb, leb, ltb, length, get_or, set, replicate, drop}
+pub use Rattle.std.specs.Str.{bytes_eq}
 pub use Rattle.std.specs.declared.option.Option.{Option}
 pub use Rattle.std.specs.declared.option.Option.TheVariants.{Some, None}
 pub use Rattle.std.specs.declared.result.Result.{Result}

@@ -1,5 +1,6 @@
 -- The world that the calls change: the files, the pool, the log and the book.
-use Rattle.model.specs.Words.{◌≡◌, Bool, true, false, List, [], ℕ, length, replicate, Option, Result, Err, Command, Refusal, Entry, LineState, Stop}
+use Rattle.std.specs.Prelude.{◌≡◌}
+use Rattle.model.specs.Words.{Bool, true, false, List, [], ℕ, length, replicate, Option, Result, Err, Command, Refusal, Entry, LineState, Stop}
 use Rattle.model.specs.declared.refusal.Refusal.TheVariants.{RunOpen}
 use Rattle.model.specs.Contents.{Pool}
 use Rattle.model.specs.Acts.{State}

@@ -1,13 +1,13 @@
 -- What holds of a sound script at each place.
 use Rattle.std.proofs.Common.{◌≡◌, ℕ, zero, suc, ◌<◌, ◌≤◌, List, [], ◌∷◌, length, IfSome, Some, None, Option, subst, arith}
 use Rattle.std.specs.Option.{option_map}
-use Rattle.std.specs.List.{AllByRecursion as All, slice_get}
+use Rattle.std.specs.List.{AllByRecursion, slice_get}
 use Rattle.script.specs.declared.answer.Have.{Have}
 use Rattle.script.specs.Sound.{Sound, Starts, Acts, StartsFit, ActsFit}
 use Rattle.script.specs.Text.{Meaning}
 use Rattle.script.specs.Views.{start_of}
 
-all_nth : {X : Type 0} (P : X → Type 0) (xs : List X) (k : ℕ) (x : X) → All P xs → Some x ≡ slice_get xs k → P x
+all_nth : {X : Type 0} (P : X → Type 0) (xs : List X) (k : ℕ) (x : X) → AllByRecursion P xs → Some x ≡ slice_get xs k → P x
 all_nth P [] k x a e = let z : ◌≡◌ {A = ℕ} 0 1 = cc in absurd (omega arith)
 all_nth P (y ∷ ys) zero x a e = let same : y ≡ x = cc in subst P same a.0
 all_nth P (y ∷ ys) (suc k) x a e = all_nth P ys k x a.1 e

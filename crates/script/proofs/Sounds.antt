@@ -5,7 +5,7 @@ use Rattle.std.proofs.lemmas.Slice.Eq.{bytes_eq-Decides}
 use Rattle.std.proofs.lemmas.List.{length-set, length_push, get_or-set_same, get_or-set_other, get_or-replicate}
 use Rattle.std.proofs.lemmas.Bool.{cond-true, cond-false, cond_both, both_ways, cases_Bool, cases_eq, ltb-true, ltb-false, leb-true, and_parts, not-true}
 use Rattle.std.specs.Option.{option_map}
-use Rattle.std.specs.List.{AllByRecursion as All}
+use Rattle.std.specs.List.{AllByRecursion}
 use Rattle.std.specs.Str.{bytes_eq}
 use Rattle.model.specs.declared.refusal.Refusal.{Refusal}
 use Rattle.model.specs.declared.refusal.Refusal.TheVariants.{TextTooLong, BadTextLine, BadLabel, ScriptFull, HaveTooLong}
@@ -56,7 +56,7 @@ before_some (Some f) None fs e = let z : ◌≡◌ {A = ℕ} 0 1 = cc in absurd 
 before_some (Some f) (Some gs) fs e = (f, gs, refl, refl, cc)
 
 abbrev Low : List (List ℕ) → List ℕ → Type 0
-Low ws fs = (length fs ≡ length ws) × All (λ f. f < 64) fs
+Low ws fs = (length fs ≡ length ws) × AllByRecursion (λ f. f < 64) fs
 
 files_low : (ls ws : List (List ℕ)) (fs : List ℕ) → length ls ≡ 64 → files_of ls ws ≡ Some fs → Low ws fs
 files_low ls [] fs l e = let z : [] ≡ fs = cc in subst (Low []) z (refl, tt)
@@ -72,7 +72,7 @@ placed [] i h = absurd (omega arith)
 placed (l ∷ ls) zero h = omega arith
 placed (l ∷ ls) (suc i) h = let p = placed ls i h in omega arith
 
-low_at : (fs : List ℕ) (j : ℕ) → All (λ f. f < 64) fs → get_or fs j 0 < 64
+low_at : (fs : List ℕ) (j : ℕ) → AllByRecursion (λ f. f < 64) fs → get_or fs j 0 < 64
 low_at [] j a = omega arith
 low_at (f ∷ fs) zero a = a.0
 low_at (f ∷ fs) (suc j) a = low_at fs j a.1

@@ -1,6 +1,6 @@
 -- What holds of each script.
 use Rattle.std.specs.Prelude.{◌≡◌, ℕ, ◌<◌, ◌≤◌, [], length, Some, Ok, Err, Result, slice_index_or}
-use Rattle.std.specs.List.{AllByRecursion as All, slice_get}
+use Rattle.std.specs.List.{AllByRecursion, slice_get}
 use Rattle.model.specs.declared.command.Command.{Command}
 use Rattle.script.specs.Text.{Meaning, Start}
 
@@ -33,8 +33,8 @@ pub record Sound (m : Meaning) : Type 0 where
   pub apart : LabelsApart m
   pub haves : length m.haves ≤ 64
   pub commands : length m.commands ≤ 64
-  pub starts : All Starts m.haves
-  pub acts : All Acts m.commands
+  pub starts : AllByRecursion Starts m.haves
+  pub acts : AllByRecursion Acts m.commands
 
 -- a text that is not refused gives a sound script
 abbrev pub Holds : {E : Type 0} → Result Meaning E → Type 0

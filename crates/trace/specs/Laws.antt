@@ -1,11 +1,11 @@
 -- What holds of reading and writing a trace.
 use Rattle.std.specs.Prelude.{◌≡◌, ℕ, ◌<◌, true, List, Ok}
-use Rattle.std.specs.List.{AllByRecursion as All}
+use Rattle.std.specs.List.{AllByRecursion}
 use Rattle.model.specs.Load.{Traced}
 use Rattle.trace.specs.Format.{decoded, encoded, lawful}
 
 abbrev pub Bytes : List ℕ → Type 0
-Bytes bs = All (λ b. b < 256) bs
+Bytes bs = AllByRecursion (λ b. b < 256) bs
 
 -- an accepted file is what its trace is written as
 abbrev pub WrittenBack : Type 0

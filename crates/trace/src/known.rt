@@ -1,7 +1,7 @@
 ghost use Rattle.std.specs.Prelude.{◌≡◌, map};
 ghost use Rattle.std.specs.Str.{bytes_eq};
 ghost use Rattle.model.specs.Contents.{mem};
-ghost use Rattle.trace.specs.Format.{known_command as is_Known};
+ghost use Rattle.trace.specs.Format.{known_command as is_known};
 
 use model::{Command, same_command};
 
@@ -26,7 +26,7 @@ pub fn known_content(earlier: &[&[u8]], content: &[u8]) -> bool
 
 /// A command is among earlier ones.
 pub fn known_command(earlier: &[Command], command: Command) -> bool
-    ensures { result ≡ is_Known command earlier.now }
+    ensures { result ≡ is_known command earlier.now }
 {
     for e in earlier {
         if same_command(command, *e) {

@@ -2,7 +2,7 @@
 use Rattle.std.proofs.Common.{◌≡◌, ℕ, ◌+◌, ◌-◌, ◌≤◌, Bool, true, false, cond, not, ◌&&◌, ◌||◌, eqb, leb, List, [], ◌∷◌, map, length, take, Ok, Err, sym, refl, ap, ◌∙◌, inl, inr, arith}
 use Rattle.std.proofs.lemmas.List.{length-map, length-take}
 use Rattle.std.proofs.lemmas.Bool.{cond-true, cond-false, and_parts, or_parts, or_from, not-true, eqb-true, le-leb, lt-leb, cases_lt}
-use Rattle.std.specs.List.{AllByRecursion as All}
+use Rattle.std.specs.List.{AllByRecursion}
 use Rattle.model.specs.Contents.{Content, Pool}
 use Rattle.model.specs.Numbers.{kind_number}
 use Rattle.model.specs.Records.{Record, said}
@@ -54,7 +54,7 @@ hint_length q (r ∷ rs) = by (same_command q.command r.command) (own r.standing
 abbrev Other : Command → Record → Type 0
 Other c x = same_command x.command c ≡ false
 
-fresh_hint : (q : Record) (rs qs : List Record) → All (Other q.command) qs → fresh (hint q rs) qs ≡ fresh rs qs
+fresh_hint : (q : Record) (rs qs : List Record) → AllByRecursion (Other q.command) qs → fresh (hint q rs) qs ≡ fresh rs qs
 fresh_hint q rs [] a = refl
 fresh_hint q rs (x ∷ qs) a =
     ap (λ k. cond k 0 1 + fresh (hint q rs) qs) (known_hint x.command q rs a.0) ∙ ap (λ n. cond (known x.command rs) 0 1 + n) (fresh_hint q rs qs a.1)
@@ -71,7 +71,7 @@ module _ (n : ℕ) where
       let a = and_parts _ _ e in not-true _ (and_parts (files_ok r.command) (not (known_command r.command s.commands)) a.0).1
 
   -- later records have other commands than those before
-  others_than : (c : Command) (s : Before) (qs : List Record) → ((x : Command) → known_command x s.commands ≡ false → same_command x c ≡ false) → each (record_ok n) noted s qs ≡ true → All (Other c) qs
+  others_than : (c : Command) (s : Before) (qs : List Record) → ((x : Command) → known_command x s.commands ≡ false → same_command x c ≡ false) → each (record_ok n) noted s qs ≡ true → AllByRecursion (Other c) qs
   others_than c s [] f e = tt
   others_than c s (x ∷ qs) f e =
       let a = and_parts (record_ok n s x) _ e in

@@ -2,7 +2,7 @@
 use Rattle.std.proofs.Common.{◌≡◌, ℕ, suc, ◌-◌, ◌≤◌, true, List, [], ◌∷◌, map, length, get_or, sym, refl, ap, ◌∙◌, subst, inl, inr, arith}
 use Rattle.std.proofs.lemmas.List.{length-map}
 use Rattle.std.proofs.lemmas.Bool.{and_parts, and_from, le-leb, cases_eq}
-use Rattle.std.specs.List.{AllByRecursion as All}
+use Rattle.std.specs.List.{AllByRecursion}
 use Rattle.model.specs.Contents.{Content, Pool, holds, content}
 use Rattle.model.specs.Records.{Record}
 use Rattle.model.specs.declared.record.Standing.TheVariants.{Hint}
@@ -30,7 +30,7 @@ place_at f n (m ∷ ns) h =
           ap (λ k. get_or (map f (m ∷ ns)) k []) next ∙ place_at f n ns (omega arith))
     ]
 
-all_at : (P : ℕ → Type 0) (n : ℕ) (ns : List ℕ) → All P ns → place n ns ≤ length ns → P n
+all_at : (P : ℕ → Type 0) (n : ℕ) (ns : List ℕ) → AllByRecursion P ns → place n ns ≤ length ns → P n
 all_at P n [] a h = absurd (omega arith)
 all_at P n (m ∷ ns) a h =
     elim (cases_eq n m) [
@@ -39,7 +39,7 @@ all_at P n (m ∷ ns) a h =
     ]
 
 -- q holds the contents of the numbers ns of p, in their order
-module _ (p q : Pool) (ns : List ℕ) (same : q.contents ≡ map (content p) ns) (all : All (In p) ns) where
+module _ (p q : Pool) (ns : List ℕ) (same : q.contents ≡ map (content p) ns) (all : AllByRecursion (In p) ns) where
   abbrev n : ℕ
   n = length (map (content p) ns)
 

@@ -4,7 +4,7 @@ use Rattle.std.proofs.ByRecursion.{All-push, All-weaker}
 use Rattle.std.proofs.lemmas.Slice.Eq.{bytes_eq-Decides}
 use Rattle.std.proofs.lemmas.List.{length-map, map_push}
 use Rattle.std.proofs.lemmas.Bool.{and_from, or_from, not_from_false, le-leb, leb-false, eq-eqb, cases_Bool, cases_order}
-use Rattle.std.specs.List.{flat_map, AllByRecursion as All}
+use Rattle.std.specs.List.{flat_map, AllByRecursion}
 use Rattle.std.specs.Str.{bytes_eq}
 use Rattle.model.specs.Contents.{Pool, count, content, mem}
 use Rattle.model.specs.Records.{Record}
@@ -21,24 +21,24 @@ use Rattle.trace_write.specs.Saves.{chosen, place, listed, numbers_in, order, in
 -- THE ORDER: numbers of the pool, each once
 
 module _ (P : ℕ → Type 0) where
-  once_more : (o : List ℕ) (n : ℕ) → All P o → Apart o → P n → All P (listed o n) × Apart (listed o n)
+  once_more : (o : List ℕ) (n : ℕ) → AllByRecursion P o → Apart o → P n → AllByRecursion P (listed o n) × Apart (listed o n)
   once_more o n a b c = by (leb (place n o) (length o)) refl
     where
-      by : (t : Bool) → leb (place n o) (length o) ≡ t → All P (cond t o (o ++ n ∷ [])) × Apart (cond t o (o ++ n ∷ []))
+      by : (t : Bool) → leb (place n o) (length o) ≡ t → AllByRecursion P (cond t o (o ++ n ∷ [])) × Apart (cond t o (o ++ n ∷ []))
       by true e = (a, b)
       by false e = (All-push P o n a c, apart_push o n b (not_there n o (leb-false (place n o) (length o) e)))
 
-  pub all_once : (o ms : List ℕ) → All P o → Apart o → All P ms → All P (after listed o ms) × Apart (after listed o ms)
+  pub all_once : (o ms : List ℕ) → AllByRecursion P o → Apart o → AllByRecursion P ms → AllByRecursion P (after listed o ms) × Apart (after listed o ms)
   all_once o [] a b c = (a, b)
   all_once o (m ∷ ms) a b c = let d = once_more o m a b c.0 in all_once (listed o m) ms d.0 d.1 c.1
 
 -- THE CONTENTS: no two are equal
 
-apart_middle : (ms : List ℕ) (n : ℕ) (ns : List ℕ) → Apart (ms ++ n ∷ ns) → All (λ m. m ≡ n → ⊥) ms
+apart_middle : (ms : List ℕ) (n : ℕ) (ns : List ℕ) → Apart (ms ++ n ∷ ns) → AllByRecursion (λ m. m ≡ n → ⊥) ms
 apart_middle [] n ns a = tt
 apart_middle (m ∷ ms) n ns a = (at ms a.0, apart_middle ms n ns a.1)
   where
-    at : (ks : List ℕ) → All (λ k. m ≡ k → ⊥) (ks ++ n ∷ ns) → m ≡ n → ⊥
+    at : (ks : List ℕ) → AllByRecursion (λ k. m ≡ k → ⊥) (ks ++ n ∷ ns) → m ≡ n → ⊥
     at [] b = b.0
     at (k ∷ ks) b = at ks b.1
 
@@ -56,11 +56,11 @@ module _ (p : Pool) (sound : Sound p) where
         | inr f ↦ f
       ]
 
-  fresh : (n : ℕ) (ms : List ℕ) → In p n → All (In p) ms → All (λ m. m ≡ n → ⊥) ms → mem (content p n) (map (content p) ms) ≡ false
+  fresh : (n : ℕ) (ms : List ℕ) → In p n → AllByRecursion (In p) ms → AllByRecursion (λ m. m ≡ n → ⊥) ms → mem (content p n) (map (content p) ms) ≡ false
   fresh n [] a b c = refl
   fresh n (m ∷ ms) a b c = or_from _ _ (differ n m a b.0 c.0) (fresh n ms a b.1 c.1)
 
-  contents_ok : (ms ns : List ℕ) → All (In p) ms → All (In p) ns → Apart (ms ++ ns) → each content_ok push (map (content p) ms) (map (content p) ns) ≡ true
+  contents_ok : (ms ns : List ℕ) → AllByRecursion (In p) ms → AllByRecursion (In p) ns → Apart (ms ++ ns) → each content_ok push (map (content p) ms) (map (content p) ns) ≡ true
   contents_ok ms [] a b c = refl
   contents_ok ms (n ∷ ns) a b c =
       let short = le-leb (length (content p n)) 4096 (sound.short (n - 1) (omega (arith, b.0.0, b.0.1))) in
@@ -81,7 +81,7 @@ module _ (p : Pool) (sound : Sound p) where
     pub chosen_are : (each (chosen_ok p) with_command [] ss ≡ true) × (length ss ≤ 256)
     chosen_are = chosen_all p [] rs refl (omega arith)
 
-    pub listed_are : All (In p) ns × Apart ns
+    pub listed_are : AllByRecursion (In p) ns × Apart ns
     listed_are = all_once (In p) [] (flat_map numbers_in ss) tt tt (all_numbers p [] ss chosen_are.0)
 
     pub few_numbers : length ns ≤ 1024

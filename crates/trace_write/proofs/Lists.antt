@@ -3,7 +3,7 @@ use Rattle.std.proofs.Common.{◌≡◌, ℕ, zero, suc, ◌+◌, ◌<◌, ◌�
 use Rattle.std.proofs.ByRecursion.{All-push}
 use Rattle.std.proofs.lemmas.List.{at_drop_more, at_drop_all}
 use Rattle.std.proofs.lemmas.Bool.{cond-true, cond-false, eq-eqb, ne_eqb, le-leb, lt-leb, cases_eq, cases_lt}
-use Rattle.std.specs.List.{AllByRecursion as All}
+use Rattle.std.specs.List.{AllByRecursion}
 use Rattle.trace_write.specs.Rooms.{Apart}
 use Rattle.trace_write.specs.Saves.{place}
 
@@ -40,7 +40,7 @@ module _ (n : ℕ) (xs : List ℕ) (i : ℕ) (inv : i + place n (drop i xs) ≡ 
   place_past h l = let a = at_drop_all (place n) xs i h in omega arith
 
 -- a number that is past the last place is not there
-pub not_there : (n : ℕ) (ms : List ℕ) → length ms < place n ms → All (λ m. m ≡ n → ⊥) ms
+pub not_there : (n : ℕ) (ms : List ℕ) → length ms < place n ms → AllByRecursion (λ m. m ≡ n → ⊥) ms
 not_there n [] h = tt
 not_there n (m ∷ ms) h =
     elim (cases_eq n m) [
@@ -50,7 +50,7 @@ not_there n (m ∷ ms) h =
 
 -- NUMBERS THAT ARE LISTED ONCE
 
-pub apart_push : (ns : List ℕ) (n : ℕ) → Apart ns → All (λ m. m ≡ n → ⊥) ns → Apart (ns ++ n ∷ [])
+pub apart_push : (ns : List ℕ) (n : ℕ) → Apart ns → AllByRecursion (λ m. m ≡ n → ⊥) ns → Apart (ns ++ n ∷ [])
 apart_push [] n a b = (tt, tt)
 apart_push (m ∷ ns) n a b = (All-push (λ k. m ≡ k → ⊥) ns n a.0 b.0, apart_push ns n a.1 b.1)
 
@@ -63,7 +63,7 @@ times : ℕ → List ℕ → ℕ
 times k [] = 0
 times k (n ∷ ns) = cond (eqb n k) 1 0 + times k ns
 
-never : (k : ℕ) (ns : List ℕ) → All (λ m. k ≡ m → ⊥) ns → times k ns ≡ 0
+never : (k : ℕ) (ns : List ℕ) → AllByRecursion (λ m. k ≡ m → ⊥) ns → times k ns ≡ 0
 unfolding times
 never k [] a = refl
 never k (n ∷ ns) a = omega (arith, cond-false {A = ℕ} (eqb n k) 1 0 (ne_eqb n k (λ e. a.0 (sym e))), never k ns a.1)
@@ -73,7 +73,7 @@ unfolding times
 once k [] a = omega arith
 once k (n ∷ ns) a =
     elim (cases_eq n k) [
-      | inl e ↦ omega (arith, cond-true {A = ℕ} (eqb n k) 1 0 (eq-eqb n k e), never k ns (subst (λ j. All (λ m. j ≡ m → ⊥) ns) e a.0))
+      | inl e ↦ omega (arith, cond-true {A = ℕ} (eqb n k) 1 0 (eq-eqb n k e), never k ns (subst (λ j. AllByRecursion (λ m. j ≡ m → ⊥) ns) e a.0))
       | inr ne ↦ omega (arith, cond-false {A = ℕ} (eqb n k) 1 0 (ne_eqb n k ne), once k ns a.1)
     ]
 
@@ -91,20 +91,20 @@ one_more k (n ∷ ns) =
       | inr h ↦ omega (arith, cond-true {A = ℕ} (leb n (suc k)) 1 0 (le-leb n (suc k) (omega arith)), cond-true {A = ℕ} (leb n k) 1 0 (le-leb n k h), cond-false {A = ℕ} (eqb n (suc k)) 1 0 (ne_eqb n (suc k) (λ e. omega arith)))
     ]
 
-none_at_zero : (ns : List ℕ) → All (λ n. 1 ≤ n) ns → up_to 0 ns ≡ 0
+none_at_zero : (ns : List ℕ) → AllByRecursion (λ n. 1 ≤ n) ns → up_to 0 ns ≡ 0
 unfolding up_to
 none_at_zero [] a = refl
 none_at_zero (n ∷ ns) a = omega (arith, cond-false {A = ℕ} (leb n 0) 1 0 (lt-leb n 0 (omega (arith, a.0))), none_at_zero ns a.1)
 
-at_most : (k : ℕ) (ns : List ℕ) → All (λ n. 1 ≤ n) ns → Apart ns → up_to k ns ≤ k
+at_most : (k : ℕ) (ns : List ℕ) → AllByRecursion (λ n. 1 ≤ n) ns → Apart ns → up_to k ns ≤ k
 at_most zero ns a b = omega (arith, none_at_zero ns a)
 at_most (suc k) ns a b = omega (arith, one_more k ns, once (suc k) ns b, at_most k ns a b)
 
-all_up_to : (k : ℕ) (ns : List ℕ) → All (λ n. n ≤ k) ns → up_to k ns ≡ length ns
+all_up_to : (k : ℕ) (ns : List ℕ) → AllByRecursion (λ n. n ≤ k) ns → up_to k ns ≡ length ns
 unfolding up_to
 all_up_to k [] a = refl
 all_up_to k (n ∷ ns) a = omega (arith, cond-true {A = ℕ} (leb n k) 1 0 (le-leb n k a.0), all_up_to k ns a.1)
 
 -- so there are no more of them than the highest can be
-pub no_more : (k : ℕ) (ns : List ℕ) → All (λ n. 1 ≤ n) ns → All (λ n. n ≤ k) ns → Apart ns → length ns ≤ k
+pub no_more : (k : ℕ) (ns : List ℕ) → AllByRecursion (λ n. 1 ≤ n) ns → AllByRecursion (λ n. n ≤ k) ns → Apart ns → length ns ≤ k
 no_more k ns low high apart = omega (arith, all_up_to k ns high, at_most k ns low apart)

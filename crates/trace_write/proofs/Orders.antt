@@ -3,7 +3,7 @@ use Rattle.std.proofs.Common.{◌≡◌, ℕ, ◌+◌, ◌-◌, ◌<◌, ◌≤�
 use Rattle.std.proofs.ByRecursion.{All-push, All-weaker}
 use Rattle.std.proofs.lemmas.List.{length-set, length_push, length-take-le, take_more_set}
 use Rattle.std.proofs.lemmas.Bool.{cond-false, lt-leb}
-use Rattle.std.specs.List.{AllByRecursion as All}
+use Rattle.std.specs.List.{AllByRecursion}
 use Rattle.trace.specs.Reads.{after}
 use Rattle.trace_write.proofs.Lists.{not_there, apart_push, no_more}
 use Rattle.trace_write.specs.Puts.{numbers_of}
@@ -27,7 +27,7 @@ module _ (o : Order) (room : Room o) (n : ℕ) (number : Number n) (at : ℕ) (e
       let z : o.count - 0 ≡ o.count = omega arith in
       omega (arith, length_listed o room, e ∙ ap (λ k. place n (take k o.list)) z)
 
-  numbers : All Number (ns ++ n ∷ [])
+  numbers : AllByRecursion Number (ns ++ n ∷ [])
   numbers = All-push Number ns n room.numbers number
 
   apart : Apart (ns ++ n ∷ [])
@@ -48,7 +48,7 @@ module _ (o : Order) (room : Room o) (n : ℕ) (number : Number n) (at : ℕ) (e
       record {
         table = length-set o.list o.count n ∙ room.table;
         count = omega (arith, note_room);
-        numbers = subst (All Number) (sym more) numbers;
+        numbers = subst (AllByRecursion Number) (sym more) numbers;
         apart = subst Apart (sym more) apart;
       }
 
@@ -57,10 +57,10 @@ module _ (o : Order) (room : Room o) (n : ℕ) (number : Number n) (at : ℕ) (e
 
 -- the numbers of a record
 module _ {X : Type 0} (f : X → ℕ) where
-  pub named_reads : (us : List X) (n : ℕ) → All Number (map f us ++ n ∷ []) → All (λ u. Number (f u)) us
+  pub named_reads : (us : List X) (n : ℕ) → AllByRecursion Number (map f us ++ n ∷ []) → AllByRecursion (λ u. Number (f u)) us
   named_reads [] n a = tt
   named_reads (u ∷ us) n a = (a.0, named_reads us n a.1)
 
-  pub named_write : (us : List X) (n : ℕ) → All Number (map f us ++ n ∷ []) → Number n
+  pub named_write : (us : List X) (n : ℕ) → AllByRecursion Number (map f us ++ n ∷ []) → Number n
   named_write [] n a = a.0
   named_write (u ∷ us) n a = named_write us n a.1

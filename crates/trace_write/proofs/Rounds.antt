@@ -4,7 +4,7 @@ use Rattle.std.proofs.lemmas.Slice.Eq.{bytes_eq-Decides}
 use Rattle.std.proofs.ByRecursion.{All-push, All-weaker}
 use Rattle.std.proofs.lemmas.List.{length_push, map_push, take_more, take_all}
 use Rattle.std.proofs.lemmas.Bool.{cond-true, cond-false, and_parts, and_from, or_parts, not-true, not_from_false, le-leb, lt-leb, leb-true, lt-ltb, eqb-true, eqb-false, cases_eq, cases_lt}
-use Rattle.std.specs.List.{flat_map, AllByRecursion as All}
+use Rattle.std.specs.List.{flat_map, AllByRecursion}
 use Rattle.std.specs.Str.{bytes_eq}
 use Rattle.model.specs.Contents.{Content, Pool, mem, find, up, fits, given, put, content}
 use Rattle.model.specs.Records.{Record}
@@ -79,12 +79,12 @@ unfolding upto
 length_upto zero = refl
 length_upto (suc h) = let a = length_push (upto h) (suc h) in let b = length_upto h in omega arith
 
-below : (h : ℕ) → All (λ m. m ≤ h) (upto h)
+below : (h : ℕ) → AllByRecursion (λ m. m ≤ h) (upto h)
 unfolding upto
 below zero = tt
 below (suc h) = All-push (λ m. m ≤ suc h) (upto h) (suc h) (All-weaker (λ m. m ≤ h) (λ m. m ≤ suc h) (λ m l. omega arith) (upto h) (below h)) (omega arith)
 
-place_none : (n : ℕ) (o : List ℕ) → All (λ m. n ≡ m → ⊥) o → place n o ≡ length o + 1
+place_none : (n : ℕ) (o : List ℕ) → AllByRecursion (λ m. n ≡ m → ⊥) o → place n o ≡ length o + 1
 place_none n [] a = refl
 place_none n (m ∷ o) a = let b = place_other n m o a.0 in let c = place_none n o a.1 in omega arith
 

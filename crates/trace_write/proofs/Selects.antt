@@ -3,7 +3,7 @@ use Rattle.std.proofs.Common.{◌≡◌, ℕ, ◌≤◌, Bool, true, false, cond
 use Rattle.std.proofs.ByRecursion.{All-append}
 use Rattle.std.proofs.lemmas.List.{length_push}
 use Rattle.std.proofs.lemmas.Bool.{and_parts, and_from, leb-true, ltb-true}
-use Rattle.std.specs.List.{flat_map, AllByRecursion as All}
+use Rattle.std.specs.List.{flat_map, AllByRecursion}
 use Rattle.model.specs.Contents.{Pool, count, holds}
 use Rattle.model.specs.Records.{Record, said}
 use Rattle.model.specs.declared.command.Command.{Command}
@@ -69,27 +69,27 @@ module _ (p : Pool) where
       let b = and_parts (leb 1 u.number) (leb u.number (count p)) a.1 in
       (leb-true 1 u.number b.0, leb-true u.number (count p) b.1)
 
-  uses_in : (us : List Use) → every (use_savable p) us ≡ true → All (In p) (map (λ u. u.number) us)
+  uses_in : (us : List Use) → every (use_savable p) us ≡ true → AllByRecursion (In p) (map (λ u. u.number) us)
   uses_in [] e = tt
   uses_in (u ∷ us) e = let a = and_parts (use_savable p u) (every (use_savable p) us) e in (use_in u a.0, uses_in us a.1)
 
-  pub numbers_in_pool : (r : Record) → savable p r ≡ true → All (In p) (numbers_in r)
+  pub numbers_in_pool : (r : Record) → savable p r ≡ true → AllByRecursion (In p) (numbers_in r)
   numbers_in_pool r e =
       let s = savable_parts r e in
       All-append (In p) (map (λ u. u.number) r.reads) (r.write.number ∷ []) (uses_in r.reads s.reads) (use_in r.write s.write, tt)
 
-  pub all_numbers : (cs : List Command) (ss : List Record) → each chosen_ok with_command cs ss ≡ true → All (In p) (flat_map numbers_in ss)
+  pub all_numbers : (cs : List Command) (ss : List Record) → each chosen_ok with_command cs ss ≡ true → AllByRecursion (In p) (flat_map numbers_in ss)
   all_numbers cs [] e = tt
   all_numbers cs (s ∷ ss) e =
       let a = and_parts (chosen_ok cs s) _ e in
       let b = and_parts (savable p s) (not (known_command s.command cs)) a.0 in
       All-append (In p) (numbers_in s) (flat_map numbers_in ss) (numbers_in_pool s b.0) (all_numbers (push cs s.command) ss a.1)
 
-  in_number : Sound p → (ns : List ℕ) → All (In p) ns → All Number ns
+  in_number : Sound p → (ns : List ℕ) → AllByRecursion (In p) ns → AllByRecursion Number ns
   in_number sound [] a = tt
   in_number sound (n ∷ ns) a = ((a.0.0, omega (arith, a.0.1, sound.count, sound.places)), in_number sound ns a.1)
 
-  pub all_named : Sound p → (cs : List Command) (rs : List Code.Record) → each chosen_ok with_command cs (map said rs) ≡ true → All Named rs
+  pub all_named : Sound p → (cs : List Command) (rs : List Code.Record) → each chosen_ok with_command cs (map said rs) ≡ true → AllByRecursion Named rs
   all_named sound cs [] e = tt
   all_named sound cs (r ∷ rs) e =
       let a = and_parts (chosen_ok cs (said r)) _ e in

@@ -2,7 +2,7 @@
 use Rattle.std.proofs.Common.{◌≡◌, ℕ, ◌+◌, ◌-◌, ◌≤◌, Bool, true, false, leb, List, [], map, length, take, drop, IfOk, Ok, Err, Result, sym, refl, ap, ◌∙◌, subst, arith}
 use Rattle.std.proofs.lemmas.List.{length-map, take_at}
 use Rattle.std.proofs.lemmas.Bool.{cond-true, cond-false}
-use Rattle.std.specs.List.{AllByRecursion as All}
+use Rattle.std.specs.List.{AllByRecursion}
 use Rattle.model.specs.Contents.{Pool}
 use Rattle.model.specs.Records.{Record, said}
 use Rattle.model.specs.Load.{Traced}
@@ -31,7 +31,7 @@ module _ (p : Pool) (sound : Sound p) (rs : List Record) (c : Chosen) (e : recor
   kept_are : map said kept ≡ chosen p rs
   kept_are = ap (map said) (exact c.count c.list) ∙ e
 
-  pub kept_named : All Named kept
+  pub kept_named : AllByRecursion Named kept
   kept_named = all_named p sound [] kept (subst (λ ss. each (chosen_ok p) with_command [] ss ≡ true) (sym kept_are) (chosen_are p sound rs).0)
 
   pub kept_few : length kept ≤ 256

@@ -1,5 +1,5 @@
 ghost use Rattle.std.specs.Prelude.{◌≡◌, ◌+◌, ◌≤◌, true, map, length};
-ghost use Rattle.std.specs.List.{AllByRecursion as All};
+ghost use Rattle.std.specs.List.{AllByRecursion};
 ghost use Rattle.model.specs.Records.{said};
 ghost use Rattle.trace.specs.Reads.{after};
 ghost use Rattle.trace_write.specs.Puts.{numbers_of, number_of_use};
@@ -43,7 +43,7 @@ impl Order {
     /// Lists the numbers of some uses.
     fn note_uses(&mut self, uses: &[Use])
         requires room { Room self.old }
-        requires numbers { All (λ u. Number u.number) uses.now }
+        requires numbers { AllByRecursion (λ u. Number u.number) uses.now }
         ensures room { Room self.new }
         ensures after { numbers_of self.new ≡ after listed (numbers_of self.old) (map number_of_use uses.now) }
     {
@@ -66,7 +66,7 @@ impl Order {
 
 /// The numbers that some records name, in order of first use.
 pub fn order_of(records: &[Record]) -> Order
-    requires { All Named records.now }
+    requires { AllByRecursion Named records.now }
     ensures room { Room result }
     ensures value { numbers_of result ≡ order_in (map said records.now) }
 {

@@ -1,6 +1,6 @@
 -- The reads of a record are listed, then its write.
 use Rattle.std.proofs.Common.{[], ◌∷◌, map, sym, ap, ◌∙◌, subst}
-use Rattle.std.specs.List.{AllByRecursion as All}
+use Rattle.std.specs.List.{AllByRecursion}
 use Rattle.model.specs.Records.{said}
 use Rattle.trace.specs.Reads.{after}
 use Rattle.trace_write.proofs.Orders.{after_append, named_reads, named_write}
@@ -14,7 +14,7 @@ note_uses-requires c =
     let r = said c.args.rec.now in
     record {
       room = c.requires.room;
-      numbers = subst (All (λ u. Number u.number)) (sym c.reads_of.ensures.value) (named_reads number_of_use r.reads r.write.number c.requires.numbers);
+      numbers = subst (AllByRecursion (λ u. Number u.number)) (sym c.reads_of.ensures.value) (named_reads number_of_use r.reads r.write.number c.requires.numbers);
     }
 
 pub note-requires : goal.note-requires
