@@ -12,8 +12,8 @@ import sys
 LETTER = r"A-Za-z0-9_\u0370-\u03ff\u2070-\u2089\u207f\u2032'"
 NAME = rf"[{LETTER}](?:[{LETTER}]|[-*](?=[{LETTER}]))*"
 TOKEN = re.compile(NAME)
-# a string, a path of a goal or of a step of the code, or a name
-PIECE = re.compile(rf'"(?:[^"\\]|\\.)*"|\b(?:goal|c)\.{NAME}|{NAME}')
+# a comment, a string, a path of a goal or of a step of the code, or a name
+PIECE = re.compile(rf'(?:(?<=\s)|^)(?:--|//).*|"(?:[^"\\]|\\.)*"|\b(?:goal|c)\.{NAME}|{NAME}', re.M)
 MARKS = {"pattern", "unfoldable", "abbrev", "pub", "data", "record", "module"}
 ANSWER = re.compile(r"^ *(?:abbrev )?(?:pub )?(\S+) : goal\.", re.M)
 AS = re.compile(rf"\bas ({NAME})")

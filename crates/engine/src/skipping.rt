@@ -72,7 +72,7 @@ pub fn skip<F: FileStore>(
     entries: &mut Lent<Entry>,
 ) -> Option<Stop>
     requires { length (held entries.old) + length reads.now < room entries.old }
-    ensures outcome { (p : PoolMeant) → outcome result (record { files = F.FileStore.map files.exit.now; pool = p; entries = held entries.new }) ≡ skips line reads.now write (record { files = F.FileStore.map files.entry.now; pool = p; entries = held entries.old }) }
+    ensures outcome { (p : PoolMeant) → outcome result (record { files = F.FileStore.map files.new; pool = p; entries = held entries.new }) ≡ skips line reads.now write (record { files = F.FileStore.map files.old; pool = p; entries = held entries.old }) }
     ensures room { room entries.new ≡ room entries.old }
 {
     for act in reads {

@@ -1,5 +1,5 @@
 -- Maps from files to content numbers, and the directory image of a map.
-use Rattle.std.specs.Prelude.{◌≡◌, ℕ, zero, suc, ◌+◌, ◌-◌, ◌*◌, ◌/◌, ◌%◌, ◌<◌, ◌≤◌, min, cond, List, [], ◌∷◌, ◌++◌, length, drop, replicate, ◌==◌, ◌≢◌, slice_index, slice_index_or}
+use Rattle.std.specs.Prelude.{◌≡◌, ℕ, zero, suc, ◌+◌, ◌-◌, ◌*◌, ◌/◌, ◌%◌, ◌<◌, ◌≤◌, min, cond, List, [], ◌∷◌, ◌++◌, length, drop, replicate, ◌==◌, ◌≢◌, slice_index}
 
 -- the content numbers of the files 0 to 63, in order
 pub record Map (ns : List ℕ) : Type 0 where
@@ -60,5 +60,5 @@ Entries f (suc n) (g ∷ a ∷ b ∷ bs) = (f ≤ g) × (g ≤ 63) × (a * 256 +
 -- THE RULES OF AN IMAGE: 193 bytes, a count of 0 to 64, as many entries, and zeros
 pub record Rules (bs : List ℕ) : Type 0 where
   pub size : length bs ≡ 193
-  pub count : slice_index_or bs 0 0 ≤ 64
+  pub count : slice_index bs 0 ≤ 64
   pub entries : Entries 0 (slice_index bs 0) (drop 1 bs)

@@ -57,7 +57,7 @@ pool = record { contents = (48 ∷ 50 ∷ 48 ∷ 51 ∷ []) ∷ (98 ∷ []) ∷ 
 abbrev files : List ℕ
 files = 1 ∷ 0 ∷ 2 ∷ 3 ∷ replicate 60 0
 
--- `copy a a`: a read, a write, then read_write, lines 0 and 0
+-- `copy a a`: a read, a write, then read-write, lines 0 and 0
 itself : in_order (copies 2 2 ∷ []) files pool ≡
     stops (record { files = files; pool = pool; entries = reads 0 2 2 ∷ writes 0 2 2 ∷ [] }) (stop_at 0 (Hazard (record { kind = ReadWrite; file = 2; earlier = reads 0 2 2; later = writes 0 2 2 })))
 itself = refl
@@ -192,7 +192,7 @@ too_late = (refl, refl)
 line_states : (next x₂ 0).notes.states ≡ Writing ∷ Ended ∷ replicate 62 Waiting
 line_states = refl
 
--- script order of the same stops with read_write, lines 0 and 1
+-- script order of the same stops with read-write, lines 0 and 1
 in_script_order : stop_of (in_order crossed files pool) ≡ Some (stop_at 1 (Hazard (record { kind = ReadWrite; file = 2; earlier = reads 0 2 2; later = writes 1 2 3 })))
 in_script_order = refl
 

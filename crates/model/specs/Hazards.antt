@@ -44,7 +44,7 @@ abbrev pub hazard_or : HazardKind → Entry → Option Entry → Option Hazard �
 hazard_or k n (Some e) h = Some (record { kind = k; file = n.file; earlier = e; later = n })
 hazard_or k n None h = h
 
--- the hazard that is named: write_write is tested first, and within a kind the earliest entry counts
+-- the hazard that is named: write-write is tested first, and within a kind the earliest entry counts
 abbrev pub hazard : Entry → List Entry → Option Hazard
 hazard n es =
     hazard_or WriteWrite n (earliest (write_write n) es)

@@ -15,10 +15,10 @@ takes set front patience passes choice = may_pass set front patience passes && s
 abbrev pub answer : (ℕ → Bool) → ℕ → ℕ → ℕ → ℕ → ℕ
 answer set front patience passes choice = cond (takes set front patience passes choice) choice front
 
--- the highest_first policy: the highest line of the set
+-- the highest-first policy: the highest line of the set
 abbrev pub highest_first : (ℕ → Bool) → ℕ → ℕ → ℕ → ℕ
 highest_first set front patience passes = answer set front patience passes (highest set 64 front)
 
--- the last_run policy: the highest line of the set that waits on no line of it. There is always one: the lowest line of a set, its front, waits on none of it.
+-- the last-run policy: the highest line of the set that waits on no line of it. There is always one: the lowest line of a set, its front, waits on none of it.
 abbrev pub last_run : (ℕ → ℕ → Bool) → (ℕ → Bool) → ℕ → ℕ → ℕ → ℕ
 last_run waiting set front patience passes = answer set front patience passes (highest (free waiting set) 64 front)

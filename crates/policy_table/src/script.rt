@@ -31,7 +31,7 @@ fn reads_one(command: Command, standing: Standing) -> Record {
     }
 }
 
-/// The last_run policy over a script of seven lines.
+/// The last-run policy over a script of seven lines.
 ///
 /// Line 1 reads what line 0 writes, and line 3 what line 1 writes. Line 4 has no record, and the record of line 5 is
 /// struck: both wait on all earlier lines. Line 6 reads what line 5 writes, but never waits on a line without a record.

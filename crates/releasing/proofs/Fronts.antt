@@ -1,4 +1,4 @@
--- Where every line waits on all earlier ones, the last_run policy answers the front.
+-- Where every line waits on all earlier ones, the last-run policy answers the front.
 use Rattle.std.proofs.Common.{◌≡◌, ℕ, ◌<◌, Bool, true, not, eqb, ltb, refl, ◌∙◌, ⊎_elim}
 use Rattle.std.proofs.lemmas.Bool.{cases_order, and_parts, and_from, both_ways, cond_both, lt-ltb, not-true}
 use Rattle.policy.specs.Choices.{may_pass, takes, last_run}

@@ -7,7 +7,7 @@ ghost use Rattle.std.proofs.Common.{rules, arith};
 use model::Command;
 use policy::{LastRun, LineSet, Policy};
 
-/// The last_run policy of a book without records: every line waits on all earlier ones, so that it always answers the
+/// The last-run policy of a book without records: every line waits on all earlier ones, so that it always answers the
 /// front.
 #[derive(Clone, Copy)]
 pub struct Unrecorded {

@@ -16,7 +16,7 @@ impl Run {
     /// An open run of these commands, from these files and a pool of so many contents.
     fn begun<F: FileStore>(commands: &[Command], files: &F, count: u16) -> Run
         requires { length commands.now ≤ 64 }
-        ensures notes { notes result ≡ record { commands = commands.entry.now; files = F.FileStore.map files.now; count = count; stop = None; states = replicate 64 Waiting } }
+        ensures notes { notes result ≡ record { commands = commands.now; files = F.FileStore.map files.now; count = count; stop = None; states = replicate 64 Waiting } }
         ensures opened { result.opened ≡ true }
         ensures lines { result.lines ≡ length commands.now }
     {

@@ -1,4 +1,4 @@
--- What the last_run policy answers is the front.
+-- What the last-run policy answers is the front.
 use Rattle.std.proofs.Common.{◌≡◌, refl, rules}
 use Rattle.policy.specs.Lines.{has}
 use Rattle.policy.specs.Waiting.{waits}
