@@ -1,5 +1,5 @@
 -- One line more gives its record, of at most sixteen reads.
-use Rattle.std.proofs.Common.{◌-◌, ◌<◌, ◌≤◌, length, take, ap, ◌∙◌, arith}
+use Rattle.std.proofs.Common.{ℕ, ◌-◌, ◌<◌, ◌≤◌, length, take, ap, ◌∙◌, arith}
 use Rattle.model.specs.Book.{reads_of, keeps}
 use Rattle.model.specs.Records.{said}
 use Rattle.runs.specs.Views.{records, places}
@@ -11,10 +11,8 @@ loop-line-init c = given_none _ _ c.args.book.now
 
 pub recorded-record-requires : goal.recorded-record-requires
 recorded-record-requires c =
-    let l = c.loop-line.line in
-    let e = ap (λ es. length (reads_of l es)) c.as_slice-entries.ensures in
-    let h = few_reads l _ (c.requires.few l) in
-    omega arith
+    let h : (l : ℕ) → length (reads_of l c.as_slice-entries.result.now) ≤ 16 = λ l. rw c.as_slice-entries.ensures (few_reads l _ (c.requires.few l)) in
+    h _
 
 pub loop-line-preserved : goal.loop-line-preserved
 loop-line-preserved c =
