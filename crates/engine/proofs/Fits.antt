@@ -1,34 +1,23 @@
 -- Contents that have to fit, added one after another.
-use Rattle.std.proofs.Common.{◌≡◌, ℕ, zero, suc, ◌+◌, ◌-◌, ◌<◌, ◌≤◌, Bool, true, false, cond, leb, List, [], ◌∷◌, ◌++◌, map, length, drop, Some, None, Option, sym, refl, ap, ◌∙◌, inl, inr, arith}
-use Rattle.std.proofs.lemmas.List.{append_assoc, append-nil, length-append, drop-map}
-use Rattle.std.proofs.lemmas.Bool.{cond-true, cond-false, cases_Bool, le-leb, lt-leb, leb-true, leb-false}
+use Rattle.std.proofs.Common.{◌≡◌, ℕ, zero, suc, ◌+◌, ◌<◌, ◌≤◌, leb, List, [], ◌∷◌, ◌++◌, get_or, Bor, map, length, drop, Some, None, Option, sym, refl, ap, ◌∙◌, inl, inr, arith}
+use Rattle.std.proofs.lemmas.List.{append_assoc, append-nil, length-append, drop-map, length-map}
+use Rattle.std.proofs.lemmas.Bool.{cond-true, cond-false, cases_Bool, le-leb, lt-leb, leb-false}
+use Rattle.std.proofs.lemmas.Iterator.{YieldsList}
+use Rattle.std.proofs.lemmas.Iterator.Consumers.{YieldsList-turn, YieldsList-end}
+use Rattle.std.proofs.lemmas.Option.{slice_get-get_or, slice_get-map, slice_get_past}
+use Rattle.std.specs.Iterator.{Yields}
 use Rattle.std.specs.List.{slice_get}
+use Rattle.std.specs.Option.{option_map}
 use Rattle.model.specs.declared.run.Entry.{Entry}
 use Rattle.model.specs.Commands.{all_bytes}
 use Rattle.model.specs.Hazards.{has_read}
 use Rattle.model.specs.Contents.{Content, Pool, content}
-use Rattle.engine.specs.Fits.{fitting, kept}
-use Rattle.engine.specs.Reads.{numbers}
+use Rattle.engine.specs.Fits.{fitting}
+use Rattle.engine.specs.Reads.{reads_in, numbers}
 use Rattle.engine.proofs.Nexts.{read_numbers}
 
-either : (b : Bool) (x y z : Content) → z ≡ cond b x y → kept b z ≡ cond b (Some x) None
-either true x y z e = ap Some e
-either false x y z e = refl
-
--- from the two clauses of `extend`
-pub added : (r : Bool) (h x z : Content) (m : ℕ) → r ≡ leb (length x) (m - length h) → length h ≤ m → z ≡ cond r (h ++ x) h → kept r z ≡ fitting m (h ++ x)
-added r h x z m f l e = either r (h ++ x) h z e ∙ ap (λ b. cond b (Some (h ++ x)) None) (f ∙ same)
-  where
-    same : leb (length x) (m - length h) ≡ leb (length (h ++ x)) m
-    same =
-        let n = length-append h x in
-        elim (cases_Bool (leb (length x) (m - length h))) [
-          | inl t ↦ t ∙ sym (le-leb (length (h ++ x)) m (omega (arith, leb-true (length x) (m - length h) t)))
-          | inr u ↦ u ∙ sym (lt-leb (length (h ++ x)) m (omega (arith, leb-false (length x) (m - length h) u)))
-        ]
-
 -- what does not fit does not fit with more
-pub over : (a b : Content) (m : ℕ) → None ≡ fitting m a → None ≡ fitting m (a ++ b)
+over : (a b : Content) (m : ℕ) → None ≡ fitting m a → None ≡ fitting m (a ++ b)
 over a b m e =
     elim (cases_Bool (leb (length a) m)) [
       | inl t ↦ (let s = cond-true (leb (length a) m) (Some a) None t in let z : ◌≡◌ {A = ℕ} 0 1 = cc in absurd (omega arith))
@@ -44,14 +33,14 @@ same_held a z m e =
     ]
 
 -- two contents: the first does not fit, or fits and the second follows
-pub both_over : (h x y : Content) (m : ℕ) → None ≡ fitting m (h ++ x) → None ≡ fitting m (h ++ (x ++ y))
+both_over : (h x y : Content) (m : ℕ) → None ≡ fitting m (h ++ x) → None ≡ fitting m (h ++ (x ++ y))
 both_over h x y m e = over (h ++ x) y m e ∙ ap (fitting m) (append_assoc h x y)
 
-pub both_added : (h x y z : Content) (m n : ℕ) (o : Option Content) → Some z ≡ fitting m (h ++ x) → n ≡ m → o ≡ fitting n (z ++ y) → o ≡ fitting m (h ++ (x ++ y))
+both_added : (h x y z : Content) (m n : ℕ) (o : Option Content) → Some z ≡ fitting m (h ++ x) → n ≡ m → o ≡ fitting n (z ++ y) → o ≡ fitting m (h ++ (x ++ y))
 both_added h x y z m n o e r f =
     f ∙ ap (λ k. fitting k (z ++ y)) r ∙ ap (λ t. fitting m (t ++ y)) (same_held (h ++ x) z m e) ∙ ap (fitting m) (append_assoc h x y)
 
-pub short : (h : Content) (m : ℕ) → length h ≤ m → Some h ≡ fitting m h
+short : (h : Content) (m : ℕ) → length h ≤ m → Some h ≡ fitting m h
 short h m l = sym (cond-true (leb (length h) m) (Some h) None (le-leb (length h) m l))
 
 -- GATHER: what is left to add at a place of the reads
@@ -71,10 +60,33 @@ nth_end [] (suc k) e = refl
 nth_end (x ∷ ns) zero e = let z : ◌≡◌ {A = ℕ} 0 1 = cc in absurd (omega arith)
 nth_end (x ∷ ns) (suc k) e = nth_end ns k e
 
-pub nth_bound : (ns : List ℕ) (k n : ℕ) → Some n ≡ slice_get ns k → k < length ns
-nth_bound [] k n e = let z : ◌≡◌ {A = ℕ} 0 1 = cc in absurd (omega arith)
-nth_bound (x ∷ ns) zero n e = omega arith
-nth_bound (x ∷ ns) (suc k) n e = omega (arith, nth_bound ns k n e)
+-- a loop over what line l read after its list: `xs` are the reads that came so far
+at_turn : (ds : List Entry) (k : ℕ) (e : Entry) → k < length (drop 1 ds) → e ≡ get_or (drop 1 ds) k e → Some e.number ≡ slice_get (map (λ d. d.number) ds) (k + 1)
+at_turn [] k e h is = absurd (omega arith)
+at_turn (d ∷ ds) k e h is =
+    let s : k + 1 ≡ suc k = omega arith in
+    ap (λ (q : Entry). Some q.number) is
+    ∙ ap (option_map (λ q. q.number)) (sym (slice_get-get_or ds k e h))
+    ∙ sym (slice_get-map (λ q. q.number) ds k)
+    ∙ ap (slice_get (map (λ q. q.number) (d ∷ ds))) (sym s)
+
+at_end : (ds : List Entry) (k : ℕ) → k ≡ length (drop 1 ds) → None ≡ slice_get (map (λ d. d.number) ds) (k + 1)
+at_end ds k is = sym (slice_get_past (map (λ d. d.number) ds) (k + 1) (by ds is))
+  where
+    by : (ds : List Entry) → k ≡ length (drop 1 ds) → length (map (λ d. d.number) ds) ≤ k + 1
+    by [] is = omega arith
+    by (d ∷ ds) is = omega (arith, length-map ds (λ q. q.number))
+
+module _ {S : Type 0} {steps : S → Option (Bor Entry) → S → Type 0} {s : S} (l : ℕ) (es : List Entry) (xs : List (Bor Entry)) (t : S) (y : Yields steps s xs t) (r : Option (Bor Entry)) (u : S) (then : steps t r u) where
+  pub next_read : (x : Bor Entry) → r ≡ Some x → YieldsList steps (λ e. e.now) s (drop 1 (reads_in l es)) → Some x.now.number ≡ slice_get (numbers l es) (length xs + 1)
+  next_read x is road =
+      let h = YieldsList-turn road xs t y r u x is then in
+      at_turn (reads_in l es) (length xs) x.now h.0 h.1
+
+  pub all_read : r ≡ None → YieldsList steps (λ e. e.now) s (drop 1 (reads_in l es)) → None ≡ slice_get (numbers l es) (length xs + 1)
+  all_read is road =
+      let h = YieldsList-end road xs t y r u is then in
+      at_end (reads_in l es) (length xs) h.1
 
 pub left_all : (p : Pool) (l : ℕ) (es : List Entry) → left p (numbers l es) 1 ≡ all_bytes (drop 1 (has_read p l es))
 left_all p l es = ap all_bytes (sym (drop-map (content p) 1 (numbers l es)) ∙ ap (drop 1) (sym (read_numbers p l es)))

@@ -1,4 +1,3 @@
-pub mod Loops
 pub mod Lists
 pub mod Nexts
 pub mod Fits

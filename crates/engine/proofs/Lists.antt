@@ -1,28 +1,42 @@
 -- A gather's list, two bytes at a time.
-use Rattle.std.proofs.Common.{◌≡◌, ℕ, zero, suc, ◌+◌, ◌-◌, ◌*◌, ◌/◌, ◌<◌, ◌≤◌, Bool, true, false, cond, ◌&&◌, leb, List, [], ◌∷◌, length, get_or, take, drop, is_some, Some, None, Option, sym, refl, ap, ◌∙◌, arith}
-use Rattle.std.proofs.lemmas.List.{take_all}
+use Rattle.std.proofs.Common.{◌≡◌, ℕ, zero, suc, ◌<◌, ◌≤◌, Bool, true, false, cond, ◌&&◌, leb, List, [], ◌∷◌, ◌++◌, min, option_and_then, subst, length, drop, is_some, Some, None, Option, sym, refl, ap, ◌∙◌, arith}
 use Rattle.std.proofs.lemmas.Bool.{cond-true, cond-false, le-leb, lt-leb, false≢true}
-use Rattle.std.specs.List.{slice_get}
+use Rattle.std.proofs.lemmas.Iterator.{YieldsList}
+use Rattle.std.proofs.lemmas.Iterator.Splits.{YieldsList-from_shown_while}
+use Rattle.std.specs.List.{slice_get, list_all}
+use Rattle.std.specs.Slice.Iter.{chunks_rest, chunks_size, chunks_steps}
+use Rattle.model.specs.Digits.{file_number}
 use Rattle.model.specs.Commands.{with_file, pairs, listed}
-use Rattle.engine.specs.Lists.{two, file_at}
+use Rattle.engine.specs.Lists.{two, twos, file_at}
 use Rattle.engine.specs.Nexts.{turn_next, gather_next}
 use Rattle.engine.specs.declared.next.Text.TheVariants.{Gathered}
 use Rattle.engine.specs.declared.next.Next.TheVariants.{Read, Write, Bad}
 
-pub file_within : (l : List ℕ) (k : ℕ) → k < length l / 2 → file_at l k ≡ two (get_or l (2 * k) 0) (get_or l (2 * k + 1) 0)
-file_within [] k h = absurd (omega arith)
-file_within (d ∷ []) k h = absurd (omega arith)
-file_within (d ∷ e ∷ l) zero h = refl
-file_within (d ∷ e ∷ l) (suc k) h =
-    let even : 2 * suc k ≡ suc (suc (2 * k)) = omega arith in
-    let odd : 2 * suc k + 1 ≡ suc (suc (2 * k + 1)) = omega arith in
-    file_within l k (omega arith) ∙ ap (λ i. two (get_or (d ∷ e ∷ l) i 0) (get_or l (2 * k + 1) 0)) (sym even) ∙ ap (λ i. two (get_or (d ∷ e ∷ l) (2 * suc k) 0) (get_or (d ∷ e ∷ l) i 0)) (sym odd)
+-- the pieces of a list of bytes, cut two by two
+twos_none : (l : List ℕ) → length l ≡ 0 → length (twos l) ≡ 0
+twos_none [] e = refl
+twos_none (d ∷ l) e = absurd (omega arith)
 
-pub file_past : (l : List ℕ) (k : ℕ) → length l / 2 ≤ k → None ≡ file_at l k
-file_past [] k h = refl
-file_past (d ∷ []) k h = refl
-file_past (d ∷ e ∷ l) zero h = absurd (omega arith)
-file_past (d ∷ e ∷ l) (suc k) h = file_past l k (omega arith)
+nothing : (l : List ℕ) → length l ≡ 0 → l ≡ []
+nothing [] e = refl
+nothing (d ∷ l) e = absurd (omega arith)
+
+twos_some : (l x r : List ℕ) → l ≡ x ++ r → length x ≡ min 2 (length l) → 0 < length l → twos l ≡ x ∷ twos r
+twos_some l [] r e n h = absurd (omega arith)
+twos_some l (a ∷ []) r e n h =
+    let m = ap length e in
+    let z : r ≡ [] = nothing r (omega arith) in
+    ap twos e ∙ ap (λ q. twos (a ∷ q)) z ∙ ap (λ q. (a ∷ []) ∷ twos q) (sym z)
+twos_some l (a ∷ b ∷ []) r e n h = ap twos e
+twos_some l (a ∷ b ∷ c ∷ x) r e n h = absurd (omega arith)
+
+pub cut_in_twos : {s : _} (xs : List ℕ) → chunks_rest s ≡ xs → chunks_size s ≡ 2 → YieldsList chunks_steps (λ y. y.now) s (twos xs)
+cut_in_twos {s} xs e two =
+    subst (λ q. YieldsList chunks_steps (λ y. y.now) s (twos q)) e
+    (YieldsList-from_shown_while chunks_steps (λ y. y.now) (λ q. twos (chunks_rest q)) (λ q. chunks_size q ≡ 2)
+    (λ q t h k. twos_none (chunks_rest q) k.1.0)
+    (λ q x t h k. (k.0 ∙ h, twos_some (chunks_rest q) x.now (chunks_rest t) k.1.0 (k.1.1 ∙ ap (λ m. min m (length (chunks_rest q))) h) k.1.2))
+    s two)
 
 some_pre : (f : Option ℕ) (o : Option (List ℕ)) → is_some (with_file f o) ≡ (is_some f && is_some o)
 some_pre None o = refl
@@ -39,17 +53,10 @@ listed_long l h = ap is_some (sym (cond-false (leb (length l) 30) (pairs l) None
 pub listed_short : (l : List ℕ) → length l ≤ 30 → is_some (pairs l) ≡ is_some (listed l)
 listed_short l h = ap is_some (sym (cond-true (leb (length l) 30) (pairs l) None (le-leb (length l) 30 h)))
 
--- past the first two bytes; no list of files ends after one, since no byte past its end is a digit
-no_two : (a b : Bool) (f : ℕ) → is_some (cond ((a && false) && b) (Some f) None) ≡ true → ⊥
-no_two true b f e = false≢true e
-no_two false b f e = false≢true e
-
-pub pairs_more : (r : List ℕ) (b : Bool) → is_some (two (get_or r 0 0) (get_or r 1 0)) ≡ true → is_some (pairs r) ≡ b → is_some (pairs (take (length r - 2) (drop 2 r))) ≡ b
-pairs_more [] b s inv = absurd (false≢true s)
-pairs_more (d ∷ []) b s inv = absurd (no_two _ _ _ s)
-pairs_more (d ∷ e ∷ l) b s inv =
-    let n : length l ≤ suc (suc (length l)) - 2 = omega arith in
-    ap (λ t. is_some (pairs t)) (take_all (suc (suc (length l)) - 2) l n) ∙ ap (λ a. a && is_some (pairs l)) (sym s) ∙ sym (pairs_step d e l) ∙ inv
+pub files_listed : (l : List ℕ) → list_all (λ digits. is_some (file_number digits)) (twos l) ≡ is_some (pairs l)
+files_listed [] = refl
+files_listed (d ∷ []) = refl
+files_listed (d ∷ e ∷ l) = ap (λ b. is_some (two d e) && b) (files_listed l) ∙ sym (pairs_step d e l)
 
 -- the file at a place of the list of pairs
 some_file : (f : Option ℕ) (o : Option (List ℕ)) (fs : List ℕ) → with_file f o ≡ Some fs → (g : ℕ) × (gs : List ℕ) × (fs ≡ g ∷ gs) × (f ≡ Some g) × (o ≡ Some gs)
@@ -62,6 +69,13 @@ file_nth [] fs k e = let z : fs ≡ [] = cc in ap (λ t. slice_get t k) (sym z)
 file_nth (d ∷ []) fs k e = let z : ◌≡◌ {A = ℕ} 0 1 = cc in absurd (omega arith)
 file_nth (d ∷ x ∷ l) fs zero e = let s = some_file (two d x) (pairs l) fs e in s.3 ∙ ap (λ t. slice_get t 0) (sym s.2)
 file_nth (d ∷ x ∷ l) fs (suc k) e = let s = some_file (two d x) (pairs l) fs e in file_nth l s.1 k s.4 ∙ ap (λ t. slice_get t (suc k)) (sym s.2)
+
+pub file_of_two : (l : List ℕ) (k : ℕ) → option_and_then file_number (slice_get (twos l) k) ≡ file_at l k
+file_of_two [] k = refl
+file_of_two (d ∷ []) zero = refl
+file_of_two (d ∷ []) (suc k) = refl
+file_of_two (d ∷ e ∷ l) zero = refl
+file_of_two (d ∷ e ∷ l) (suc k) = file_of_two l k
 
 picked : (b : Bool) (o : Option (List ℕ)) (fs : List ℕ) → cond b o None ≡ Some fs → o ≡ Some fs
 picked true o fs e = e

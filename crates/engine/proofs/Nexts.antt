@@ -1,7 +1,8 @@
 -- What a line has read, by the numbers of its reads.
 use Rattle.std.proofs.Common.{◌≡◌, ℕ, ◌-◌, ◌≤◌, Bool, true, false, cond, eqb, List, [], ◌∷◌, map, length, drop, Some, None, Option, sym, refl, ap, ◌∙◌, arith}
 use Rattle.std.proofs.lemmas.List.{length-map}
-use Rattle.std.specs.List.{slice_get}
+use Rattle.std.proofs.lemmas.List.Sums.{length-filter}
+use Rattle.std.specs.List.{slice_get, count_by}
 use Rattle.model.specs.declared.command.Command.{Command}
 use Rattle.model.specs.declared.command.Kind.{Kind}
 use Rattle.model.specs.declared.command.Kind.TheVariants.{Copy, Join, Gather, Choose, Tally, Check}
@@ -9,19 +10,24 @@ use Rattle.model.specs.declared.run.Entry.{Entry}
 use Rattle.model.specs.Commands.{reads, writes, all_bytes, next, want, gathers, listed, next_listed}
 use Rattle.model.specs.Hazards.{has_read}
 use Rattle.model.specs.Contents.{Content, Pool, content}
-use Rattle.engine.specs.Reads.{numbers}
+use Rattle.engine.specs.Reads.{reads_by, reads_in, numbers}
 use Rattle.engine.specs.Nexts.{wanted, gather_next, turn_next}
+use Rattle.engine.proofs.Listing.{by_parts}
 
-move : (f : ℕ → Content) (a b : Bool) (n : ℕ) (ns : List ℕ) → map f (cond a (cond b ns (n ∷ ns)) ns) ≡ cond a (cond b (map f ns) (f n ∷ map f ns)) (map f ns)
-move f true true n ns = refl
-move f true false n ns = refl
-move f false b n ns = refl
+move : (f : ℕ → Content) (b : Bool) (e : Entry) (es : List Entry) → map f (map (λ d. d.number) (cond b (e ∷ es) es)) ≡ cond b (f e.number ∷ map f (map (λ d. d.number) es)) (map f (map (λ d. d.number) es))
+move f true e es = refl
+move f false e es = refl
 
 pub read_numbers : (p : Pool) (l : ℕ) (es : List Entry) → has_read p l es ≡ map (content p) (numbers l es)
 read_numbers p l [] = refl
 read_numbers p l (e ∷ es) =
-    ap (λ xs. cond (eqb l e.line) (cond e.wrote xs (content p e.number ∷ xs)) xs) (read_numbers p l es)
-    ∙ sym (move (content p) (eqb l e.line) e.wrote e.number (numbers l es))
+    by_parts (eqb l e.line) e.wrote (content p e.number ∷ has_read p l es) (has_read p l es)
+    ∙ ap (λ xs. cond (reads_by l e) (content p e.number ∷ xs) xs) (read_numbers p l es)
+    ∙ sym (move (content p) (reads_by l e) e (reads_in l es))
+
+-- how many there are
+pub numbers_long : (l : ℕ) (es : List Entry) → count_by (reads_by l) es ≡ length (numbers l es)
+numbers_long l es = sym (length-map (reads_in l es) (λ e. e.number) ∙ length-filter (reads_by l) es)
 
 -- the first reads
 shape_none : (ns : List ℕ) → None ≡ slice_get ns 0 → ns ≡ []

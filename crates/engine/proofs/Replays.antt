@@ -1,20 +1,30 @@
 -- A record's acts, made again.
-use Rattle.std.proofs.Common.{◌≡◌, ℕ, ◌+◌, ◌<◌, ◌≤◌, Bool, true, false, cond, ◌&&◌, ltb, leb, List, [], ◌∷◌, ◌++◌, length, get_or, drop, Some, None, sym, ap, ◌∙◌, inl, inr, arith}
+use Rattle.std.proofs.Common.{◌≡◌, ℕ, ◌+◌, ◌<◌, ◌≤◌, Bool, true, false, cond, ◌&&◌, ltb, leb, List, [], ◌∷◌, ◌++◌, length, get_or, drop, Some, None, Ok, Err, Result, is_ok, refl, sym, ap, ◌∙◌, inl, inr, arith}
 use Rattle.std.proofs.lemmas.Slice.Eq.{bytes_eq-Decides}
 use Rattle.std.proofs.lemmas.List.{at_drop_more, at_drop_all}
-use Rattle.std.proofs.lemmas.Bool.{cond-true, cases_Bool, leb-false, eq-eqb, lt-ltb}
+use Rattle.std.proofs.lemmas.Bool.{cond-true, cases_Bool, leb-false, eq-eqb, lt-ltb, false≢true}
 use Rattle.std.specs.Str.{bytes_eq}
 use Rattle.model.specs.declared.run.Entry.{Entry}
 use Rattle.model.specs.declared.record.Use.{Use}
 use Rattle.model.specs.Commands.{Want}
 use Rattle.model.specs.Truth.{asks, makes, follows}
 use Rattle.model.specs.Contents.{Content, Pool, content, holds}
-use Rattle.engine.specs.Fits.{fitting}
+use Rattle.engine.specs.Fits.{fitting, kept}
 use Rattle.engine.specs.Nexts.{spelled, wanted}
+use Rattle.engine.specs.declared.text.TooLong.{TooLong}
 use Rattle.engine.specs.declared.next.Next.{Next}
 use Rattle.engine.specs.declared.next.Next.TheVariants.{Write}
 use Rattle.engine.specs.declared.next.Text.{Text}
 use Rattle.engine.proofs.Fits.{same_held}
+
+-- by whether a text was filled in
+pub not_kept : (r : Result (Unit {0}) TooLong) (x : Content) → false ≡ is_ok r → None ≡ kept r x
+not_kept (Ok u) x e = absurd (false≢true e)
+not_kept (Err t) x e = refl
+
+pub was_kept : (r : Result (Unit {0}) TooLong) (x : Content) → true ≡ is_ok r → Some x ≡ kept r x
+was_kept (Ok u) x e = refl
+was_kept (Err t) x e = absurd (false≢true (sym e))
 
 -- a write: what does not fit is not what was recorded
 pub too_long : (y x h : Content) (m : ℕ) → None ≡ fitting m (h ++ x) → h ≡ [] → 4096 ≤ m → length y ≤ 4096 → false ≡ bytes_eq y x

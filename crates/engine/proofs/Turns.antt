@@ -1,5 +1,5 @@
 -- What a read comes to.
-use Rattle.std.proofs.Common.{◌≡◌, ℕ, Bool, true, false, cond, eqb, List, [], ◌∷◌, ◌++◌, get_or, None, Option, sym, refl, ap, ◌∙◌}
+use Rattle.std.proofs.Common.{arith, ◌≡◌, ℕ, Bool, true, false, cond, eqb, List, [], ◌∷◌, ◌++◌, get_or, Some, None, Option, Ok, sym, refl, ap, ◌∙◌}
 use Rattle.std.proofs.lemmas.Bool.{cond-true, cond-false, eq-eqb, ne_eqb}
 use Rattle.model.specs.declared.command.Command.{Command}
 use Rattle.model.specs.declared.run.Entry.{Entry}
@@ -10,6 +10,7 @@ use Rattle.model.specs.Commands.{Want, reads, bad, want, is_bad}
 use Rattle.model.specs.Hazards.{has_read, hazard}
 use Rattle.model.specs.Contents.{Content, Pool, content, known}
 use Rattle.engine.specs.Nexts.{wanted}
+use Rattle.engine.specs.States.{met}
 use Rattle.engine.specs.declared.next.Next.{Next}
 use Rattle.engine.specs.declared.next.Next.TheVariants.{Read, Write, Bad}
 
@@ -48,6 +49,11 @@ module _ (l : ℕ) (e : Entry) (s t : State) (w : Want) (same : t ≡ noted e s)
       ∙ sym (cond-false (is_bad w) (stops (noted e s) (stop_at l BadList)) (goes (noted e s)) (sym u))
       ∙ sym (cond-false (eqb e.number 0) (stops (noted e s) (stop_at l Absent)) _ (ne_eqb e.number 0 here))
       ∙ untested l (noted e s) (hazard e s.entries) _ none
+
+-- a line that goes on met no hazard
+pub unmet : (l : ℕ) (o : Option Met.Hazard) (x : Unit {0}) → Ok x ≡ met l o → None ≡ o
+unmet l None x e = refl
+unmet l (Some h) x e = let z : ◌≡◌ {A = ℕ} 0 1 = cc in absurd (omega arith)
 
 abbrev pub entry_of : ℕ → ℕ → ℕ → Entry
 entry_of l f n = record { line = l; wrote = false; file = f; number = n }

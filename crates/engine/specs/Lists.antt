@@ -6,6 +6,12 @@ use Rattle.model.specs.Digits.{file_number}
 abbrev pub two : ℕ → ℕ → Option ℕ
 two d e = file_number (d ∷ e ∷ [])
 
+-- its bytes two by two; one that is left over stands alone
+abbrev pub twos : List ℕ → List (List ℕ)
+twos [] = []
+twos (d ∷ []) = (d ∷ []) ∷ []
+twos (d ∷ e ∷ l) = (d ∷ e ∷ []) ∷ twos l
+
 -- the file at a place
 abbrev pub file_at : List ℕ → ℕ → Option ℕ
 file_at [] k = None

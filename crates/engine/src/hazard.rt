@@ -1,4 +1,5 @@
 ghost use Rattle.std.specs.Prelude.{◌≡◌};
+ghost use Rattle.std.specs.Option.{option_map};
 ghost use Rattle.model.specs.Hazards.{earliest, hazard};
 ghost use Rattle.engine.specs.Meets.{meets};
 
@@ -22,37 +23,31 @@ fn does_meet(kind: HazardKind, new: Entry, earlier: Entry) -> bool
 fn earliest_met(kind: HazardKind, entries: &[Entry], new: Entry) -> Option<Entry>
     ensures { result ≡ earliest (meets kind new) entries.now }
 {
-    for e in entries {
-        if does_meet(kind, new, *e) {
-            return Some(*e);
-        }
-    }
-    None
+    entries
+        .iter()
+        .copied()
+        .find(|earlier| does_meet(kind, new, *earlier))
+}
+
+/// The hazard of this kind, with the earliest entry that a new one meets so.
+// Kept: that an act meets another is what is asked here; it becomes an error where the act is noted.
+fn hazard_by(kind: HazardKind, entries: &[Entry], new: Entry) -> Option<Hazard>
+    ensures { result ≡ option_map (λ e. record { kind = kind; file = new.file; earlier = e; later = new }) (earliest (meets kind new) entries.now) }
+{
+    earliest_met(kind, entries, new).map(|earlier| Hazard {
+        kind,
+        file: new.file,
+        earlier,
+        later: new,
+    })
 }
 
 /// The hazard of a new entry, given the earlier ones.
+// Kept: the same.
 pub fn hazard_of(entries: &[Entry], new: Entry) -> Option<Hazard>
     ensures { result ≡ hazard new entries.now }
 {
-    if let Some(earlier) = earliest_met(HazardKind::WriteWrite, entries, new) {
-        return Some(with(HazardKind::WriteWrite, earlier, new));
-    }
-    if let Some(earlier) = earliest_met(HazardKind::ReadWrite, entries, new) {
-        return Some(with(HazardKind::ReadWrite, earlier, new));
-    }
-    match earliest_met(HazardKind::SpeculativeWriteRead, entries, new) {
-        Some(earlier) => Some(with(HazardKind::SpeculativeWriteRead, earlier, new)),
-        None => None,
-    }
-}
-
-fn with(kind: HazardKind, earlier: Entry, later: Entry) -> Hazard
-    ensures { result ≡ record { kind = kind; file = later.file; earlier = earlier; later = later } }
-{
-    Hazard {
-        kind,
-        file: later.file,
-        earlier,
-        later,
-    }
+    hazard_by(HazardKind::WriteWrite, entries, new)
+        .or_else(|| hazard_by(HazardKind::ReadWrite, entries, new))
+        .or_else(|| hazard_by(HazardKind::SpeculativeWriteRead, entries, new))
 }

@@ -2,11 +2,11 @@
 #![tactic(auto)]
 
 mod acting;
+mod acts;
 mod hazard;
 mod line;
 mod list;
 mod next;
-mod reads;
 mod replay;
 mod skipping;
 mod text;

@@ -4,13 +4,13 @@ ghost use Rattle.model.specs.Hazards.{has_read};
 ghost use Rattle.pool.specs.Contents.{meant};
 ghost use Rattle.engine.specs.Nexts.{wanted, gather_next};
 
+use crate::acts::Acts;
 use crate::list::{file_at, is_list};
-use crate::reads::{count, read_at};
-use model::{Command, Entry, Kind};
+use model::{Command, Kind};
 use pool::Pool;
 
 /// The content that a line writes, by the numbers of what it read.
-#[derive(Clone, Copy)]
+#[derive(Clone, Copy, Debug, PartialEq, Eq)]
 pub(crate) enum Text {
     Of(u16),
     Both(u16, u16),
@@ -20,7 +20,7 @@ pub(crate) enum Text {
 }
 
 /// What a line does next.
-#[derive(Clone, Copy)]
+#[derive(Clone, Copy, Debug, PartialEq, Eq)]
 pub(crate) enum Next {
     Read(u8),
     Write(u8, Text),
@@ -31,10 +31,7 @@ pub(crate) enum Next {
 fn agrees(content: &[u8]) -> bool
     ensures { result ≡ is_yes content.now }
 {
-    match content {
-        [first, ..] => *first == b'y',
-        [] => false,
-    }
+    content.starts_with(b"y")
 }
 
 /// What a gather does next, that has read its list and so many files.
@@ -51,20 +48,20 @@ fn gather_next(to: u8, list: &[u8], files: usize) -> Next
 }
 
 /// What a line of a command does next, given the entries so far.
-pub(crate) fn next_of(command: Command, line: u8, entries: &[Entry], pool: &Pool) -> Next
-    ensures { wanted (meant pool.now) line entries.now result ≡ want command (has_read (meant pool.now) line entries.now) }
+pub(crate) fn next_of(command: Command, acts: &Acts, pool: &Pool) -> Next
+    ensures { wanted (meant pool.now) acts.now.line acts.now.entries.now result ≡ want command (has_read (meant pool.now) acts.now.line acts.now.entries.now) }
 {
-    let Some(first) = read_at(entries, line, 0) else {
+    let Some(first) = acts.read_at(0) else {
         return Next::Read(command.a);
     };
-    let second = read_at(entries, line, 1);
+    let second = acts.read_at(1);
     match command.kind {
         Kind::Copy => Next::Write(command.b, Text::Of(first)),
         Kind::Join => match second {
             Some(second) => Next::Write(command.c, Text::Both(first, second)),
             None => Next::Read(command.b),
         },
-        Kind::Gather => gather_next(command.b, pool.bytes(first), count(entries, line) - 1),
+        Kind::Gather => gather_next(command.b, pool.bytes(first), acts.count() - 1),
         Kind::Choose => match second {
             Some(second) => Next::Write(command.d, Text::Of(second)),
             None => {

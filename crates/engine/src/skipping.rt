@@ -1,17 +1,20 @@
 ghost use Rattle.std.specs.Prelude.{◌≡◌, ◌+◌, ◌<◌, ◌&&◌, ◌∷◌, length, ◌==◌, slice_index};
+ghost use Rattle.std.specs.List.{list_all};
 ghost use Rattle.lists.specs.Held.{held, room};
 ghost use Rattle.model.specs.Acts.{State};
-ghost use Rattle.model.specs.Contents.{Pool as PoolMeant};
+ghost use Rattle.model.specs.Contents.{Pool as PoolMeant, holds};
 ghost use Rattle.model.specs.Step.{match as matching, all_held, entry as entry_of, skip as skips};
+ghost use Rattle.model.specs.Records.{said};
 ghost use Rattle.pool.specs.Contents.{meant};
 ghost use Rattle.engine.specs.States.{outcome};
 
 use crate::acting::note;
 use files::FileStore;
 use lists::Lent;
-use model::{Entry, Fault, Stop, Use};
+use model::{Entry, Record, Stop, Use};
 use pool::Pool;
 
+// Kept: no `From`, since an entry has a line and a direction too.
 /// The entry of a recorded act.
 pub(crate) fn entry(line: u8, wrote: bool, act: Use) -> Entry
     ensures { result ≡ entry_of line wrote act }
@@ -26,69 +29,44 @@ pub(crate) fn entry(line: u8, wrote: bool, act: Use) -> Entry
 
 /// Every number is in the pool.
 fn are_held(acts: &[Use], pool: &Pool) -> bool
-    ensures { result ≡ all_held (meant pool.now) acts.now }
+    ensures { result ≡ list_all (λ act. holds (meant pool.now) act.number) acts.now }
 {
-    for act in acts {
-        if !pool.holds(act.number) {
-            return false;
-        }
-    }
-    true
-}
-
-/// A file has the number that was read.
-fn is_now<F: FileStore>(act: Use, files: &F) -> bool
-    ensures { result ≡ (slice_index (F.FileStore.map files.now) act.file == act.number) }
-{
-    files.tell(act.file) == act.number
+    acts.iter().all(|act| pool.holds(act.number))
 }
 
 /// The files hold what was read.
 fn do_match<F: FileStore>(reads: &[Use], files: &F) -> bool
-    ensures { result ≡ matching (F.FileStore.map files.now) reads.now }
+    ensures { result ≡ list_all (λ act. slice_index (F.FileStore.map files.now) act.file == act.number) reads.now }
 {
-    for act in reads {
-        if !is_now(*act, files) {
-            return false;
-        }
-    }
-    true
+    reads.iter().all(|act| files.tell(act.file) == act.number)
 }
 
 /// The acts of a record can be made again: each number is in the pool, and the files hold what was read.
-pub fn can_skip<F: FileStore>(reads: &[Use], write: Use, files: &F, pool: &Pool) -> bool
-    ensures { result ≡ (all_held (meant pool.now) (write ∷ reads.now) && matching (F.FileStore.map files.now) reads.now) }
+#[tactic(auto, using(crate::proofs::Skips::all_held_is, crate::proofs::Skips::match_is))]
+pub fn can_skip<F: FileStore>(rec: &Record, files: &F, pool: &Pool) -> bool
+    ensures { result ≡ (all_held (meant pool.now) ((said rec.now).write ∷ (said rec.now).reads) && matching (F.FileStore.map files.now) (said rec.now).reads) }
 {
-    let held = pool.holds(write.number) && are_held(reads, pool);
+    let reads = rec.reads();
+    let held = pool.holds(rec.write.number) && are_held(reads, pool);
     held && do_match(reads, files)
 }
 
+// Kept: the line and the entries stay apart, since a skip changes the entries.
 /// A line makes the acts of a record in order; the first hazard stops the run. The pool, whatever it is, stays.
 pub fn skip<F: FileStore>(
     line: u8,
-    reads: &[Use],
-    write: Use,
+    rec: &Record,
     files: &mut F,
     entries: &mut Lent<Entry>,
-) -> Option<Stop>
-    requires { length (held entries.old) + length reads.now < room entries.old }
-    ensures outcome { (p : PoolMeant) → outcome result (record { files = F.FileStore.map files.new; pool = p; entries = held entries.new }) ≡ skips line reads.now write (record { files = F.FileStore.map files.old; pool = p; entries = held entries.old }) }
+) -> Result<(), Stop>
+    requires { length (held entries.old) + length (said rec.now).reads < room entries.old }
+    ensures outcome { (p : PoolMeant) → outcome result (record { files = F.FileStore.map files.new; pool = p; entries = held entries.new }) ≡ skips line (said rec.now).reads (said rec.now).write (record { files = F.FileStore.map files.old; pool = p; entries = held entries.old }) }
     ensures room { room entries.new ≡ room entries.old }
 {
+    let reads = rec.reads();
     for act in reads {
-        if let Some(hazard) = note(entries, entry(line, false, *act)) {
-            return Some(Stop {
-                line,
-                fault: Fault::Hazard(hazard),
-            });
-        }
+        note(entries, entry(line, false, *act))?;
     }
-    files.set(write.file, write.number);
-    match note(entries, entry(line, true, write)) {
-        Some(hazard) => Some(Stop {
-            line,
-            fault: Fault::Hazard(hazard),
-        }),
-        None => None,
-    }
+    files.set(rec.write.file, rec.write.number);
+    note(entries, entry(line, true, rec.write))
 }

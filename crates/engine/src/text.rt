@@ -7,18 +7,25 @@ ghost use Rattle.pool.specs.Contents.{meant};
 ghost use Rattle.engine.specs.Fits.{fitting, kept};
 ghost use Rattle.engine.specs.Nexts.{spelled};
 
+use crate::acts::Acts;
 use crate::next::Text;
-use crate::reads::read_at;
 use lists::Lent;
-use model::Entry;
 use pool::Pool;
 
+/// A text does not fit.
+#[derive(Clone, Copy, Debug, PartialEq, Eq)]
+pub(crate) struct TooLong;
+
 /// Adds bytes, if there is room for all of them.
-fn add(out: &mut Lent<u8>, bytes: &[u8]) -> bool
+fn add(out: &mut Lent<u8>, bytes: &[u8]) -> Result<(), TooLong>
     ensures held { kept result (held out.new) ≡ fitting (room out.old) (held out.old ++ bytes.now) }
     ensures room { room out.new ≡ room out.old }
 {
-    out.extend(bytes)
+    if out.extend(bytes) {
+        Ok(())
+    } else {
+        Err(TooLong)
+    }
 }
 
 /// What a tally writes for a length.
@@ -36,34 +43,29 @@ fn verdict_of(a: &[u8], b: &[u8]) -> [u8; 4]
 }
 
 /// Adds all that a line read after its list.
-fn gather(line: u8, entries: &[Entry], pool: &Pool, out: &mut Lent<u8>) -> bool
-    ensures held { kept result (held out.new) ≡ fitting (room out.old) (held out.old ++ all_bytes (drop 1 (has_read (meant pool.now) line entries.now))) }
+fn gather(acts: &Acts, pool: &Pool, out: &mut Lent<u8>) -> Result<(), TooLong>
+    ensures held { kept result (held out.new) ≡ fitting (room out.old) (held out.old ++ all_bytes (drop 1 (has_read (meant pool.now) acts.now.line acts.now.entries.now))) }
     ensures room { room out.new ≡ room out.old }
 {
-    let mut at = 1;
-    while let Some(number) = read_at(entries, line, at) {
-        if !add(out, pool.bytes(number)) {
-            return false;
-        }
-        at += 1;
+    let reads = acts.entries.iter().filter(|entry| acts.is_read(entry));
+    for read in reads.skip(1) {
+        add(out, pool.bytes(read.number))?;
     }
-    true
+    Ok(())
 }
 
 /// Adds the bytes of a text, if there is room for them.
-pub(crate) fn fill(text: Text, line: u8, entries: &[Entry], pool: &Pool, out: &mut Lent<u8>) -> bool
-    ensures held { kept result (held out.new) ≡ fitting (room out.old) (held out.old ++ spelled (meant pool.now) line entries.now text) }
+pub(crate) fn fill(text: Text, acts: &Acts, pool: &Pool, out: &mut Lent<u8>) -> Result<(), TooLong>
+    ensures held { kept result (held out.new) ≡ fitting (room out.old) (held out.old ++ spelled (meant pool.now) acts.now.line acts.now.entries.now text) }
     ensures room { room out.new ≡ room out.old }
 {
     match text {
         Text::Of(number) => add(out, pool.bytes(number)),
         Text::Both(first, second) => {
-            if !add(out, pool.bytes(first)) {
-                return false;
-            }
+            add(out, pool.bytes(first))?;
             add(out, pool.bytes(second))
         }
-        Text::Gathered => gather(line, entries, pool, out),
+        Text::Gathered => gather(acts, pool, out),
         Text::Sheets(number) => add(out, &sheets_of(pool.bytes(number).len() as u32)),
         Text::Verdict(first, second) => {
             add(out, &verdict_of(pool.bytes(first), pool.bytes(second)))

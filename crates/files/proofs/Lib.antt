@@ -1,4 +1,3 @@
 mod Layouts
 mod Rules
-mod Tables
 mod Walks

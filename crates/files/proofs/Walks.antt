@@ -1,51 +1,35 @@
--- Walking through the entries of an image, looking for a file.
-use Rattle.std.proofs.Common.{◌≡◌, ℕ, suc, ◌+◌, ◌-◌, ◌*◌, ◌<◌, ◌≤◌, min, cond, eqb, List, ◌∷◌, length, get_or, drop, sym, ap, ◌∙◌, arith}
-use Rattle.std.proofs.lemmas.List.{drop_more}
-use Rattle.std.proofs.lemmas.Bool.{cond-true, cond-false, eq-eqb, ne_eqb}
+-- Looking for a file among the entries of an image.
+use Rattle.std.proofs.Common.{◌≡◌, ℕ, zero, suc, ◌+◌, ◌*◌, ◌/◌, ◌<◌, ◌≤◌, min, Bool, true, false, cond, ◌==◌, List, [], ◌∷◌, length, get_or, take, drop, find, Some, None, Option, sym, refl, ap, ◌∙◌, arith}
+use Rattle.std.proofs.lemmas.List.{length-drop, take_all}
+use Rattle.std.specs.Simd.{first_chunks}
 use Rattle.files.specs.Layout.{told, mapped}
 use Rattle.files.specs.Trips.{mapped_at}
 
--- three bytes are one entry
-one_entry : (bs : List ℕ) (j : ℕ) → j + 2 < length bs → drop j bs ≡ get_or bs j 0 ∷ get_or bs (j + 1) 0 ∷ get_or bs (j + 2) 0 ∷ drop (j + 3) bs
-one_entry bs j h =
-    let two : j + 1 + 1 ≡ j + 2 = omega arith in
-    let three : j + 2 + 1 ≡ j + 3 = omega arith in
-    drop_more bs j 0 (omega arith)
-    ∙ ap (λ xs. get_or bs j 0 ∷ xs) (drop_more bs (j + 1) 0 (omega arith) ∙ ap (λ k. get_or bs (j + 1) 0 ∷ drop k bs) two)
-    ∙ ap (λ xs. get_or bs j 0 ∷ get_or bs (j + 1) 0 ∷ xs) (drop_more bs (j + 2) 0 (omega arith) ∙ ap (λ k. get_or bs (j + 2) 0 ∷ drop k bs) three)
+-- the number that an entry tells
+abbrev pub number_of : Option (List ℕ) → ℕ
+number_of None = 0
+number_of (Some e) = get_or e 1 0 * 256 + get_or e 2 0
 
-told_step : (f n : ℕ) (bs : List ℕ) (j : ℕ) → j + 2 < length bs → told f (suc n) (drop j bs) ≡ cond (eqb (get_or bs j 0) f) (get_or bs (j + 1) 0 * 256 + get_or bs (j + 2) 0) (told f n (drop (j + 3) bs))
+-- the first n of k entries give a file what the first of them that is the file's tells
+told_is : (f n k : ℕ) (bs : List ℕ) → n ≤ k → 3 * k ≤ length bs → told f n bs ≡ number_of (find (λ e. get_or e 0 0 == f) (take n (first_chunks 3 k bs)))
 unfolding told
-told_step f n bs j h = ap (told f (suc n)) (one_entry bs j h)
+told_is f zero k bs h l = refl
+told_is f (suc n) zero bs h l = absurd (omega arith)
+told_is f (suc n) (suc k) [] h l = absurd (omega arith)
+told_is f (suc n) (suc k) (g ∷ []) h l = absurd (omega arith)
+told_is f (suc n) (suc k) (g ∷ a ∷ []) h l = absurd (omega arith)
+told_is f (suc n) (suc k) (g ∷ a ∷ b ∷ bs) h l = by (told_is f n k bs (omega arith) (omega arith)) (g == f)
+  where
+    by : told f n bs ≡ number_of (find (λ e. get_or e 0 0 == f) (take n (first_chunks 3 k bs))) → (is : Bool) → cond is (a * 256 + b) (told f n bs) ≡ number_of (cond is (Some (g ∷ a ∷ b ∷ [])) (find (λ e. get_or e 0 0 == f) (take n (first_chunks 3 k bs))))
+    by rest true = refl
+    by rest false = rest
 
--- the walk has come to entry i: what is left gives the answer
-abbrev pub Walk : List ℕ → ℕ → ℕ → ℕ → Type 0
-Walk bs f count i = told f count (drop 1 bs) ≡ told f (count - i) (drop (3 * i + 1) bs)
-
-pub walk_none : (bs : List ℕ) (f count : ℕ) → Walk bs f count 0
-walk_none bs f count = let same : count ≡ count - 0 = omega arith in ap (λ n. told f n (drop 1 bs)) same
-
-step : (bs : List ℕ) (f count i : ℕ) → length bs ≡ 193 → i < count → count ≤ 64 → Walk bs f count i → told f count (drop 1 bs) ≡ cond (eqb (get_or bs (3 * i + 1) 0) f) (get_or bs (3 * i + 1 + 1) 0 * 256 + get_or bs (3 * i + 1 + 2) 0) (told f (count - (i + 1)) (drop (3 * i + 1 + 3) bs))
-step bs f count i long h few walk =
-    let same : count - i ≡ suc (count - (i + 1)) = omega arith in
-    walk ∙ ap (λ n. told f n (drop (3 * i + 1) bs)) same ∙ told_step f (count - (i + 1)) bs (3 * i + 1) (omega arith)
-
-pub walk_more : (bs : List ℕ) (f count i : ℕ) → length bs ≡ 193 → i < count → count ≤ 64 → (get_or bs (3 * i + 1) 0 ≡ f → ⊥) → Walk bs f count i → Walk bs f count (i + 1)
-walk_more bs f count i long h few ne walk =
-    let same : 3 * i + 1 + 3 ≡ 3 * (i + 1) + 1 = omega arith in
-    step bs f count i long h few walk
-    ∙ cond-false (eqb (get_or bs (3 * i + 1) 0) f) (get_or bs (3 * i + 1 + 1) 0 * 256 + get_or bs (3 * i + 1 + 2) 0) (told f (count - (i + 1)) (drop (3 * i + 1 + 3) bs)) (ne_eqb (get_or bs (3 * i + 1) 0) f ne)
-    ∙ ap (λ j. told f (count - (i + 1)) (drop j bs)) same
-
--- the two answers of the walk
-pub walk_found : (bs : List ℕ) (f count i r : ℕ) → length bs ≡ 193 → f < 64 → count ≡ min (get_or bs 0 0) 64 → i < count → get_or bs (3 * i + 1) 0 ≡ f → r ≡ get_or bs (3 * i + 1 + 1) 0 * 256 + get_or bs (3 * i + 1 + 2) 0 → Walk bs f count i → r ≡ get_or (mapped bs) f 0
-walk_found bs f count i r long low c h e read walk =
-    read
-    ∙ sym (cond-true (eqb (get_or bs (3 * i + 1) 0) f) (get_or bs (3 * i + 1 + 1) 0 * 256 + get_or bs (3 * i + 1 + 2) 0) (told f (count - (i + 1)) (drop (3 * i + 1 + 3) bs)) (eq-eqb (get_or bs (3 * i + 1) 0) f e))
-    ∙ sym (step bs f count i long h (omega arith) walk) ∙ ap (λ n. told f n (drop 1 bs)) c ∙ sym (mapped_at bs f low)
-
-pub walk_all : (bs : List ℕ) (f count i : ℕ) → f < 64 → count ≡ min (get_or bs 0 0) 64 → count ≤ i → Walk bs f count i → 0 ≡ get_or (mapped bs) f 0
-unfolding told
-walk_all bs f count i low c h walk =
-    let none : 0 ≡ count - i = omega arith in
-    ap (λ n. told f n (drop (3 * i + 1) bs)) none ∙ sym walk ∙ ap (λ n. told f n (drop 1 bs)) c ∙ sym (mapped_at bs f low)
+-- the search answers what the image gives the file
+pub found_is : (f n : ℕ) (bs : List ℕ) (es : List (List ℕ)) (o : Option (List ℕ)) → length bs ≡ 193 → f < 64 → n ≡ min (get_or bs 0 0) 64 → es ≡ first_chunks 3 (length (take 192 (drop 1 bs)) / 3) (take 192 (drop 1 bs)) → o ≡ find (λ e. get_or e 0 0 == f) (take n es) → number_of o ≡ get_or (mapped bs) f 0
+found_is f n bs es o long low count entries found =
+    let l = length-drop 1 bs in
+    let all : take 192 (drop 1 bs) ≡ drop 1 bs = take_all 192 (drop 1 bs) (omega arith) in
+    let many : length (drop 1 bs) / 3 ≡ 64 = omega arith in
+    let es_are : es ≡ first_chunks 3 64 (drop 1 bs) = entries ∙ ap (λ xs. first_chunks 3 (length xs / 3) xs) all ∙ ap (λ k. first_chunks 3 k (drop 1 bs)) many in
+    ap number_of (found ∙ ap (λ xs. find (λ e. get_or e 0 0 == f) (take n xs)) es_are)
+    ∙ sym (told_is f n 64 (drop 1 bs) (omega arith) (omega arith)) ∙ ap (λ m. told f m (drop 1 bs)) count ∙ sym (mapped_at bs f low)

@@ -1,9 +1,10 @@
-ghost use Rattle.std.specs.Prelude.{◌≡◌, ℕ, ◌<◌, true, false, List, length, is_some, IfSome, ◌==◌, ◌≢◌, slice_index};
+ghost use Rattle.std.specs.Prelude.{◌≡◌, ℕ, ◌<◌, true, false, List, length, is_some, IfSome, find, ◌==◌, ◌≢◌, slice_index};
 ghost use Rattle.std.specs.Str.{bytes_eq};
 ghost use Rattle.files.specs.Layout.{Map, Rules, layout, mapped};
 ghost use Rattle.files.specs.Laws.{Laid, RoundTrip};
 
 use crate::draft::Draft;
+use std::array;
 
 /// The image of a table of numbers.
 pub fn encoded(numbers: [u16; 64]) -> [u8; 193]
@@ -18,6 +19,7 @@ pub fn encoded(numbers: [u16; 64]) -> [u8; 193]
     draft.finished(numbers)
 }
 
+// Kept: 0 stands for an absent file wherever a number of a content is told; the image and the rules fix it.
 /// The number that an image gives a file: that of the file's entry, 0 if there is none.
 pub fn number_in(bytes: &[u8; 193], file: u8) -> u16
     ensures { result ≡ slice_index (mapped bytes.now) file }
@@ -25,25 +27,26 @@ pub fn number_in(bytes: &[u8; 193], file: u8) -> u16
     if file >= 64 {
         return 0;
     }
-    let count = bytes[0].min(64);
-    for i in 0..count {
-        let at = 3 * i as usize + 1;
-        if bytes[at] == file {
-            return u16::from_be_bytes([bytes[at + 1], bytes[at + 2]]);
-        }
+    let entries = bytes[1..].as_chunks::<3>().0;
+    let count = bytes[0].min(64) as usize;
+    match entry_of(&entries[..count], file) {
+        Some(entry) => u16::from_be_bytes([entry[1], entry[2]]),
+        None => 0,
     }
-    0
+}
+
+/// The first entry of a file.
+fn entry_of(entries: &[[u8; 3]], file: u8) -> Option<[u8; 3]>
+    ensures { result ≡ find (λ entry. slice_index entry 0 == file) entries.now }
+{
+    entries.iter().copied().find(|entry| entry[0] == file)
 }
 
 /// The table of the numbers that an image gives.
 pub fn decoded(bytes: &[u8; 193]) -> [u16; 64]
     ensures { result ≡ mapped bytes.now }
 {
-    let mut numbers = [0; 64];
-    for file in 0..64 {
-        numbers[file as usize] = number_in(bytes, file);
-    }
-    numbers
+    array::from_fn(|file| number_in(bytes, file as u8))
 }
 
 /// The bytes as an image, if they have its length.
@@ -53,12 +56,7 @@ pub fn sized(bytes: &[u8]) -> Option<[u8; 193]>
     ensures unruly { is_some result ≡ false → Rules bytes.now → ⊥ }
     ensures none { is_some result ≡ false → (ns : List ℕ) → Map ns → bytes.now ≢ layout ns }
 {
-    if bytes.len() != 193 {
-        return None;
-    }
-    let mut image = [0; 193];
-    image.copy_from_slice(bytes);
-    Some(image)
+    <[u8; 193]>::try_from(bytes).ok()
 }
 
 /// An image is the layout of the map that it means.
@@ -71,8 +69,7 @@ pub fn is_laid(image: [u8; 193]) -> bool
     ensures found { (ns : List ℕ) → Map ns → image ≡ layout ns → result ≡ true }
     ensures same { (ns : List ℕ) → Map ns → image ≡ layout ns → mapped image ≡ ns }
 {
-    let again = encoded(decoded(&image));
-    again[..] == image[..]
+    encoded(decoded(&image)) == image
 }
 
 /// The law of the layout stands.

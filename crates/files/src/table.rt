@@ -1,7 +1,7 @@
 ghost use Rattle.std.specs.Prelude.{◌≡◌, ℕ, ◌<◌, length, replicate, slice_index};
 ghost use Rattle.std.proofs.Common.{rules, arith};
 
-use crate::numbers::{absent, number_at, with_number};
+use crate::numbers::{number_at, with_number};
 use crate::store::FileStore;
 
 /// A plain table of the 64 numbers.
@@ -17,7 +17,7 @@ impl Table {
     pub fn new() -> Table
         ensures { result.numbers ≡ replicate 64 0 }
     {
-        Table { numbers: absent() }
+        Table { numbers: [0; 64] }
     }
 }
 

@@ -12,6 +12,7 @@ pub fn read_input(rt: &HostRuntime, buffer: &mut [u8]) -> io::Result<usize>
 {
     let mut stdin = rt.stdin();
     let mut len = 0;
+    // Kept: no method of the library fills a lent buffer up to the end of the input; `read_to_end` fills a vector.
     while len < buffer.len() {
         let n = stdin.read(&mut buffer[len..])?;
         if n == 0 {

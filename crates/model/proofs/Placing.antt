@@ -29,7 +29,7 @@ without_length : (c : Command) (cs : List Command) → in_script c cs ≡ true �
 without_length c [] h = absurd (both_ways false refl h)
 without_length c (d ∷ ds) h = by (same_command c d) h (without_length c ds)
   where
-    by : (b : Bool) → cond b true (in_script c ds) ≡ true → (in_script c ds ≡ true → length ds ≡ suc (length (without c ds))) → suc (length ds) ≡ suc (length (cond b ds (d ∷ without c ds)))
+    by : (b : Bool) → (b || in_script c ds) ≡ true → (in_script c ds ≡ true → length ds ≡ suc (length (without c ds))) → suc (length ds) ≡ suc (length (cond b ds (d ∷ without c ds)))
     by true h ih = refl
     by false h ih = ap suc (ih h)
 
@@ -37,7 +37,7 @@ without_in : (c s : Command) (cs : List Command) → in_script s cs ≡ true →
 without_in c s [] h ne = absurd (both_ways false refl h)
 without_in c s (d ∷ ds) h ne = by (same_command c d) refl (same_command s d) refl h (λ k. without_in c s ds k ne)
   where
-    by : (b : Bool) → same_command c d ≡ b → (e : Bool) → same_command s d ≡ e → cond e true (in_script s ds) ≡ true → (in_script s ds ≡ true → in_script s (without c ds) ≡ true) → in_script s (cond b ds (d ∷ without c ds)) ≡ true
+    by : (b : Bool) → same_command c d ≡ b → (e : Bool) → same_command s d ≡ e → (e || in_script s ds) ≡ true → (in_script s ds ≡ true → in_script s (without c ds) ≡ true) → in_script s (cond b ds (d ∷ without c ds)) ≡ true
     by true i true j k ih = absurd (both_ways _ ne (rw (same_is c d i) j))
     by true i false j k ih = k
     by false i true j k ih = rw j
@@ -141,7 +141,7 @@ abbrev pub Different : List Command → Type 0
 Different [] = Unit {0}
 Different (c ∷ cs) = (in_script c cs ≡ false) × Different cs
 
-in_parts : (b r : Bool) → cond b true r ≡ false → (b ≡ false) × (r ≡ false)
+in_parts : (b r : Bool) → (b || r) ≡ false → (b ≡ false) × (r ≡ false)
 in_parts true r h = absurd (true≢false h)
 in_parts false r h = (refl, h)
 
@@ -170,6 +170,6 @@ in_here [] i c e = let z : ◌≡◌ {A = ℕ} 0 1 = cc in absurd (omega arith)
 in_here (d ∷ cs) zero c e = let same : d ≡ c = cc in rw (same, same_self c)
 in_here (d ∷ cs) (suc i) c e = by (same_command c d) (in_here cs i c e)
   where
-    by : (b : Bool) → in_script c cs ≡ true → cond b true (in_script c cs) ≡ true
+    by : (b : Bool) → in_script c cs ≡ true → (b || in_script c cs) ≡ true
     by true h = refl
     by false h = h

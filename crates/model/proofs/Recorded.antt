@@ -1,5 +1,5 @@
 -- After a run is kept, each of its lines could be skipped at once by the record that it gave.
-use Rattle.std.proofs.Common.{◌≡◌, ℕ, suc, ◌+◌, ◌<◌, ◌≤◌, Bool, true, false, cond, List, [], ◌∷◌, ◌++◌, length, Some, Ok, sym, refl, ap, ◌∙◌, ⊎_elim, arith}
+use Rattle.std.proofs.Common.{◌≡◌, ℕ, suc, ◌+◌, ◌<◌, ◌≤◌, Bool, true, false, ◌||◌, List, [], ◌∷◌, ◌++◌, length, Some, Ok, sym, refl, ap, ◌∙◌, ⊎_elim, arith}
 use Rattle.std.proofs.lemmas.Bool.{cases_Bool, both_ways, and_parts, and_from}
 use Rattle.model.specs.declared.command.Command.{Command}
 use Rattle.model.specs.declared.answers.Closed.TheVariants.{Kept}
@@ -41,7 +41,7 @@ in_at : (c : Command) (cs : List Command) → in_script c cs ≡ true → (j : �
 in_at c [] h = absurd (both_ways false refl h)
 in_at c (d ∷ cs) h = by (same_command c d) refl h (in_at c cs)
   where
-    by : (b : Bool) → same_command c d ≡ b → cond b true (in_script c cs) ≡ true → (in_script c cs ≡ true → (j : ℕ) × (j < length cs) × (target_at cs j ≡ target c)) → (j : ℕ) × (j < suc (length cs)) × (target_at (d ∷ cs) j ≡ target c)
+    by : (b : Bool) → same_command c d ≡ b → (b || in_script c cs) ≡ true → (in_script c cs ≡ true → (j : ℕ) × (j < length cs) × (target_at cs j ≡ target c)) → (j : ℕ) × (j < suc (length cs)) × (target_at (d ∷ cs) j ≡ target c)
     by true e h ih = (0, omega arith, ap target (sym (same_is c d e)))
     by false e h ih = let k = ih h in (suc k.0, omega (arith, k.1), k.2)
 

@@ -1,5 +1,6 @@
 -- One act of a line: its tests in order, and what it leaves.
-use Rattle.std.specs.Prelude.{◌&&◌, ◌||◌, ◌∷◌, ◌++◌}
+use Rattle.std.specs.Prelude.{◌&&◌, ◌∷◌, ◌++◌}
+use Rattle.std.specs.List.{list_any}
 use Rattle.model.specs.Words.{Bool, true, false, cond, List, [], ℕ, zero, suc, eqb, leb, length, get_or, set, Option, Some, None, Entry, Fault, Stop, LineState}
 use Rattle.model.specs.declared.run.Hazard as Met
 use Rattle.model.specs.declared.run.Fault.TheVariants.{TooLong, NoRoom, Hazard, Absent, BadList}
@@ -77,8 +78,7 @@ act k l s = let xs = has_read s.pool l s.entries in attempt k l s xs (k xs)
 
 -- it has read an absent file
 abbrev pub read_absent : ℕ → List Entry → Bool
-read_absent l [] = false
-read_absent l (e ∷ es) = (eqb l e.line && eqb e.number 0) || read_absent l es
+read_absent l es = list_any (λ e. eqb l e.line && eqb e.number 0) es
 
 abbrev pub state_by : Want → LineState
 state_by (reads f) = Reading

@@ -1,6 +1,7 @@
 -- The rules of the book: which record a command has, and where a record goes.
-use Rattle.std.specs.Prelude.{◌&&◌, ◌||◌, ◌∷◌, ◌++◌}
-use Rattle.model.specs.Words.{Bool, true, false, cond, List, [], ℕ, suc, eqb, ltb, length, Option, Some, None, Command, Entry}
+use Rattle.std.specs.Prelude.{◌&&◌, ◌∷◌, ◌++◌, find}
+use Rattle.std.specs.List.{list_any}
+use Rattle.model.specs.Words.{Bool, true, false, cond, List, [], ℕ, suc, eqb, ltb, length, Option, Command, Entry}
 use Rattle.model.specs.declared.record.Standing.TheVariants.{Hint, Own, Struck}
 use Rattle.model.specs.Numbers.{kind_number}
 use Rattle.model.specs.Records.{Use, Record, Standing}
@@ -16,18 +17,15 @@ same_command c d = eqb (kind_number c.kind) (kind_number d.kind) && eqb c.a d.a 
 
 -- the record that a line of command c finds
 abbrev pub record_of : Command → List Record → Option Record
-record_of c [] = None
-record_of c (r ∷ rs) = cond (same_command c r.command) (Some r) (record_of c rs)
+record_of c rs = find (λ r. same_command c r.command) rs
 
 abbrev pub has_record : Command → List Record → Bool
-has_record c [] = false
-has_record c (r ∷ rs) = same_command c r.command || has_record c rs
+has_record c rs = list_any (λ r. same_command c r.command) rs
 
 -- THE PLACE FOR A RECORD of a kept run
 
 abbrev pub in_script : Command → List Command → Bool
-in_script c [] = false
-in_script c (d ∷ ds) = cond (same_command c d) true (in_script c ds)
+in_script c ds = list_any (same_command c) ds
 
 -- in place of the record of its command
 abbrev pub replace : Record → List Record → List Record

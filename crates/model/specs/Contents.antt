@@ -1,5 +1,6 @@
 -- Contents, and the pool that numbers them.
-use Rattle.std.specs.Prelude.{ℕ, zero, suc, ◌+◌, ◌-◌, Bool, false, cond, ◌&&◌, ◌||◌, List, [], ◌∷◌, ◌++◌, length, take, Some, None, Option, nat_le, slice_index_or}
+use Rattle.std.specs.Prelude.{ℕ, zero, suc, ◌+◌, ◌-◌, Bool, cond, ◌&&◌, List, [], ◌∷◌, ◌++◌, length, take, Some, None, Option, nat_le, slice_index_or}
+use Rattle.std.specs.List.{list_any}
 use Rattle.std.specs.Str.{bytes_eq}
 
 -- A content is a list of bytes.
@@ -37,8 +38,7 @@ abbrev pub known : Pool → ℕ → ℕ
 known p n = cond (nat_le n (count p)) n 0
 
 abbrev pub mem : Content → List Content → Bool
-mem x [] = false
-mem x (y ∷ xs) = bytes_eq x y || mem x xs
+mem x xs = list_any (bytes_eq x) xs
 
 abbrev pub up : ℕ → ℕ
 up zero = zero

@@ -1,6 +1,7 @@
 -- What the log's entries tell: what each line has done, and the hazards of a new act.
-use Rattle.std.specs.Prelude.{◌&&◌, ◌||◌, ◌∷◌}
-use Rattle.model.specs.Words.{Bool, true, false, cond, not, List, [], ℕ, eqb, ltb, Option, Some, None, Entry, HazardKind}
+use Rattle.std.specs.Prelude.{◌&&◌, ◌∷◌, find}
+use Rattle.std.specs.List.{list_any, list_all}
+use Rattle.model.specs.Words.{Bool, cond, not, List, [], ℕ, eqb, ltb, Option, Some, None, Entry, HazardKind}
 use Rattle.model.specs.declared.run.HazardKind.TheVariants.{WriteWrite, ReadWrite, SpeculativeWriteRead}
 use Rattle.model.specs.declared.run.Hazard.{Hazard}
 use Rattle.model.specs.Contents.{Content, Pool, content}
@@ -9,13 +10,11 @@ use Rattle.model.specs.Contents.{Content, Pool, content}
 
 -- line l has made no act
 abbrev pub fresh : ℕ → List Entry → Bool
-fresh l [] = true
-fresh l (e ∷ es) = not (eqb l e.line) && fresh l es
+fresh l es = list_all (λ e. not (eqb l e.line)) es
 
 -- line l has ended: it made its write
 abbrev pub ended : ℕ → List Entry → Bool
-ended l [] = false
-ended l (e ∷ es) = (eqb l e.line && e.wrote) || ended l es
+ended l es = list_any (λ e. eqb l e.line && e.wrote) es
 
 -- the contents that line l has read
 abbrev pub has_read : Pool → ℕ → List Entry → List Content
@@ -36,8 +35,7 @@ speculative_write_read n e = not n.wrote && (e.wrote && (eqb n.file e.file && lt
 
 -- the earliest entry that passes a test
 abbrev pub earliest : (Entry → Bool) → List Entry → Option Entry
-earliest t [] = None
-earliest t (e ∷ es) = cond (t e) (Some e) (earliest t es)
+earliest t es = find t es
 
 -- the hazard with that entry, or else another
 abbrev pub hazard_or : HazardKind → Entry → Option Entry → Option Hazard → Option Hazard

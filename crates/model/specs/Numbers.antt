@@ -1,7 +1,8 @@
 -- The numbers of refusals and of kinds of commands.
-use Rattle.std.specs.Prelude.{ℕ}
+use Rattle.std.specs.Prelude.{◌≡◌, ℕ, List, cond, Option, Some, None, Ok, Err, Result, codes, ◌==◌}
 use Rattle.model.specs.declared.command.Kind.{Kind}
 use Rattle.model.specs.declared.command.Kind.TheVariants.{Copy, Join, Gather, Choose, Tally, Check}
+use Rattle.model.specs.declared.command.UnknownKind.{UnknownKind}
 use Rattle.model.specs.declared.refusal.Refusal.{Refusal}
 use Rattle.model.specs.declared.refusal.Refusal.TheVariants.{
   TextTooLong,
@@ -71,6 +72,30 @@ kind_number Gather = 3
 kind_number Choose = 4
 kind_number Tally = 5
 kind_number Check = 6
+
+-- the kind that a number tells
+abbrev pub kind_of : ℕ → Option Kind
+kind_of n =
+    cond (n == 1) (Some Copy)
+    (cond (n == 2) (Some Join)
+    (cond (n == 3) (Some Gather) (cond (n == 4) (Some Choose) (cond (n == 5) (Some Tally) (cond (n == 6) (Some Check) None)))))
+
+-- the kind of a number, or an error with that number
+abbrev pub kind_result : ℕ → Option Kind → Result Kind UnknownKind
+kind_result n (Some k) = Ok k
+kind_result n None = Err (record { number = n })
+
+abbrev pub TellsKind : ℕ → Result Kind UnknownKind → Type 0
+TellsKind n r = r ≡ kind_result n (kind_of n)
+
+-- the word by which scripts name a kind
+abbrev pub kind_name : Kind → List ℕ
+kind_name Copy = codes "copy"
+kind_name Join = codes "join"
+kind_name Gather = codes "gather"
+kind_name Choose = codes "choose"
+kind_name Tally = codes "tally"
+kind_name Check = codes "check"
 
 -- how many files a command of a kind names
 abbrev pub arity : Kind → ℕ

@@ -1,7 +1,7 @@
 //! The words that every crate of the runner shares, what they mean, and the promise that the runner keeps.
 //!
 //! The meaning stands in `specs/`: what a line does, what an act is, script order, what each call does to the
-//! world, and the promises over every past. Each function here whose name ends in `_stands` says in its contract
+//! world, and the promises over every past. Each function here whose name ends in `_stand` or `_stands` says in its contract
 //! that such a promise is proved.
 #![tactic(auto)]
 
@@ -17,10 +17,10 @@ mod refusal;
 mod run;
 
 pub use answers::{BuildRefusal, Built, CloseRefusal, Closed, StepRefusal, Stepped, Wish};
-pub use command::{Command, Kind, same_command};
+pub use command::{Command, Kind, UnknownKind, is_among, same_command};
 pub use digits::file_number;
 pub use fairness::asks_stand;
-pub use record::{Record, Standing, Use, record_of};
+pub use record::{Record, Standing, Use, place_of, record_of};
 pub use refusal::Refusal;
 pub use run::{Entry, Fault, Hazard, HazardKind, LineState, Stop};
 

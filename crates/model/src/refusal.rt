@@ -1,8 +1,11 @@
-ghost use Rattle.std.specs.Prelude.{◌≡◌};
+ghost use Rattle.std.specs.Prelude.{◌≡◌, Some, decimal};
 ghost use Rattle.model.specs.Numbers.{number_of};
 
+use std::error::Error;
+use std::fmt;
+
 /// Why a call is refused or a run stops. Each case has the number by which reports and programs tell it.
-#[derive(Clone, Copy)]
+#[derive(Clone, Copy, Debug, PartialEq, Eq)]
 pub enum Refusal {
     /// A script's text is longer than 16,384 bytes.
     TextTooLong = 1,
@@ -61,6 +64,7 @@ pub enum Refusal {
 }
 
 impl Refusal {
+    // Kept: `as` under a name of its own, which says what the number is.
     /// The number of the refusal.
     pub fn number(self) -> u8
         ensures { result ≡ number_of self }
@@ -68,3 +72,15 @@ impl Refusal {
         self as u8
     }
 }
+
+/// A refusal is told by its number.
+impl fmt::Display for Refusal {
+    ghost output = { λ refusal. Some (decimal (number_of refusal)) };
+
+    fn fmt<W: fmt::Write>(&self, f: &mut fmt::Formatter<W>) -> fmt::Result {
+        let number = self.number();
+        write!(f, "{number}")
+    }
+}
+
+impl Error for Refusal {}

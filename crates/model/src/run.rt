@@ -5,7 +5,7 @@ use crate::refusal::Refusal;
 
 /// One act of a line, as the log notes it: it read or wrote this file, and the content has this number (0: the
 /// file was absent).
-#[derive(Clone, Copy)]
+#[derive(Clone, Copy, Debug, Default, PartialEq, Eq)]
 pub struct Entry {
     pub line: u8,
     pub wrote: bool,
@@ -14,7 +14,7 @@ pub struct Entry {
 }
 
 /// How two acts on one file are in an order that matters.
-#[derive(Clone, Copy)]
+#[derive(Clone, Copy, Debug, PartialEq, Eq)]
 pub enum HazardKind {
     /// A write after an earlier write.
     WriteWrite,
@@ -25,7 +25,7 @@ pub enum HazardKind {
 }
 
 /// A new act met an earlier act on the same file.
-#[derive(Clone, Copy)]
+#[derive(Clone, Copy, Debug, PartialEq, Eq)]
 pub struct Hazard {
     pub kind: HazardKind,
     pub file: u8,
@@ -34,7 +34,7 @@ pub struct Hazard {
 }
 
 /// Why a line could not go on.
-#[derive(Clone, Copy)]
+#[derive(Clone, Copy, Debug, PartialEq, Eq)]
 pub enum Fault {
     /// It is to write more than 4,096 bytes.
     TooLong,
@@ -49,6 +49,7 @@ pub enum Fault {
 }
 
 impl Fault {
+    // Kept: a method and no `From`, since a hazard is lost.
     /// The refusal by which reports and programs tell it.
     pub fn refusal(&self) -> Refusal
         ensures { result ≡ fault_refusal self.now }
@@ -64,14 +65,14 @@ impl Fault {
 }
 
 /// The end of a run that could not go on: the line, and why.
-#[derive(Clone, Copy)]
+#[derive(Clone, Copy, Debug, PartialEq, Eq)]
 pub struct Stop {
     pub line: u8,
     pub fault: Fault,
 }
 
 /// How far a line has come.
-#[derive(Clone, Copy, PartialEq, Eq)]
+#[derive(Clone, Copy, Debug, PartialEq, Eq)]
 pub enum LineState {
     /// It has made no act.
     Waiting,

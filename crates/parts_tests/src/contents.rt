@@ -1,11 +1,13 @@
-use pool::{NoRoom, Place, Pool, Put};
+use pool::{Found, NoRoom, Place, Pool, Put};
 use std::test::Fail;
 
+// Kept: the tests keep their values, 0 where the pool refuses or does not find.
 fn number(answer: Result<Put, NoRoom>) -> u16 {
-    match answer {
-        Ok(put) => put.number,
-        Err(NoRoom) => 0,
-    }
+    answer.map_or(0, |put| put.number)
+}
+
+fn number_found(found: Option<Found>) -> u16 {
+    found.map_or(0, |found| found.number)
 }
 
 #[test]
@@ -29,17 +31,15 @@ fn a_content_and_where_it_starts(rt: HostRuntime) -> Result<(), Fail> {
     let mut pool = Pool::new(&mut bytes, &mut places);
     assert_eq!(rt; number(pool.put(b"net")), 1);
     assert_eq!(rt; number(pool.put(b"route")), 2);
-    match pool.content(2) {
-        Some(content) => {
-            assert_eq!(rt; content.start, 3);
-            assert!(rt; content.bytes == b"route".as_slice());
-        }
-        None => return Err(Fail::new("the content is not there")),
-    }
+    let Some(content) = pool.content(2) else {
+        return Err(Fail::new("the content is not there"));
+    };
+    assert_eq!(rt; content.start, 3);
+    assert!(rt; content.bytes == b"route".as_slice());
     assert!(rt; pool.content(0).is_none());
     assert!(rt; pool.content(3).is_none());
     assert_eq!(rt; pool.known(3), 0);
-    assert_eq!(rt; pool.find(b"rout").number, 0);
+    assert_eq!(rt; number_found(pool.find(b"rout")), 0);
     Ok(())
 }
 
@@ -54,7 +54,7 @@ fn all_places(rt: HostRuntime) {
     assert_eq!(rt; pool.count(), 1024);
     assert_eq!(rt; number(pool.put(b"one more")), 0);
     assert_eq!(rt; number(pool.put(&[3, 255])), 1024);
-    assert_eq!(rt; pool.find(&[0, 1]).number, 2);
+    assert_eq!(rt; number_found(pool.find(&[0, 1])), 2);
     assert!(rt; pool.holds(1024));
     assert!(rt; !pool.holds(1025));
 }

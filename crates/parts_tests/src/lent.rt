@@ -15,3 +15,13 @@ fn a_list_fills_and_is_cut(rt: HostRuntime) {
     list.truncate(1);
     assert!(rt; !list.replace(1, b'y'));
 }
+
+#[test]
+fn an_element_is_changed_where_it_lies(rt: HostRuntime) {
+    let mut room = [0u8; 3];
+    let mut list = Lent::new(&mut room);
+    assert!(rt; list.extend(b"ab"));
+    assert!(rt; list.change(1, |byte| *byte = b'x'));
+    assert!(rt; !list.change(2, |byte| *byte = b'y'));
+    assert!(rt; list.as_slice() == b"ax".as_slice());
+}

@@ -1,17 +1,16 @@
 use files::{FileStore, Image, Table, copy_all};
 use model::Refusal;
+use std::array;
 
+// Kept: the tests keep their values, 0 where nothing is refused.
 fn refusal(answer: Result<(), Refusal>) -> u8 {
-    match answer {
-        Ok(()) => 0,
-        Err(refusal) => refusal.number(),
-    }
+    answer.err().map_or(0, |refusal| refusal.number())
 }
 
 /// Gives each file a number, its own above 256.
 fn give_all<F: FileStore>(store: &mut F) {
-    for file in 0..64u8 {
-        store.set(file, 256 + file as u16);
+    for file in 0..64 {
+        store.set(file, 256 + u16::from(file));
     }
 }
 
@@ -61,13 +60,7 @@ fn entries_in_order_and_zeros_behind(rt: HostRuntime) {
 
 /// An image of these first bytes, and zeros.
 fn begins(first: &[u8]) -> [u8; 193] {
-    let mut bytes = [0; 193];
-    for (i, byte) in first.iter().enumerate() {
-        if i < 193 {
-            bytes[i] = *byte;
-        }
-    }
-    bytes
+    array::from_fn(|i| first.get(i).copied().unwrap_or(0))
 }
 
 #[test]

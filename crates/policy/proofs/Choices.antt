@@ -1,9 +1,9 @@
 -- What is settled by patience is an answer of a policy's meaning; a set always has a line that waits on none of it.
 use Rattle.std.proofs.Common.{◌≡◌, ℕ, zero, suc, ◌+◌, ◌≤◌, Bool, true, false, cond, not, eqb, sym, refl, ⊎_elim}
-use Rattle.std.proofs.lemmas.Bool.{cases_Bool, and_parts, and_from, not-true, not_from_false, eqb-false, cond-true}
+use Rattle.std.proofs.lemmas.Bool.{cases_Bool, and_parts, and_from, not-true, not_from_false, eqb-false}
 use Rattle.model.specs.Policies.{Answered}
 use Rattle.policy.specs.Lines.{some_below, leads, highest}
-use Rattle.policy.specs.Choices.{may_pass, takes, answer}
+use Rattle.policy.specs.Choices.{may_pass, takes}
 use Rattle.policy.specs.Waiting.{held_up, free}
 use Rattle.policy.proofs.Lines.{some_to, leads_to}
 
@@ -11,9 +11,6 @@ use Rattle.policy.proofs.Lines.{some_to, leads_to}
 module _ (set : ℕ → Bool) (front patience passes choice : ℕ) (taken : true ≡ takes set front patience passes choice) where
   may : may_pass set front patience passes ≡ true
   may = (and_parts (may_pass set front patience passes) (set choice) (sym taken)).0
-
-  pub passed_line : choice ≡ answer set front patience passes choice
-  passed_line = sym (cond-true (takes set front patience passes choice) choice front (sym taken))
 
   pub passed_by : passes ≤ patience → (choice ≡ front → ⊥) → Answered set front choice (record { patience = patience; before = passes; after = passes + 1 })
   passed_by le ne =

@@ -1,5 +1,6 @@
 -- Sets of lines: which lines are in one, which is its lowest, which is the highest that passes a test.
-use Rattle.std.specs.Prelude.{◌≡◌, ℕ, zero, suc, Bool, true, false, cond, not, ◌&&◌, ◌||◌, Some, None, Option, slice_index_or}
+use Rattle.std.specs.Prelude.{◌≡◌, ℕ, zero, suc, Bool, true, false, cond, not, ◌&&◌, Some, None, Option, slice_index_or}
+use Rattle.std.specs.List.{list_any, range_with_len}
 use Rattle.model.specs.Policies.{Front}
 use Rattle.policy.specs.declared.line_set.LineSet.{LineSet}
 
@@ -9,8 +10,7 @@ has s line = slice_index_or s.lines line false
 
 -- some line below n passes a test
 abbrev pub some_below : (ℕ → Bool) → ℕ → Bool
-some_below test zero = false
-some_below test (suc n) = test n || some_below test n
+some_below test n = list_any test (range_with_len 0 n)
 
 -- a line is the lowest of a set
 abbrev pub leads : (ℕ → Bool) → ℕ → Bool

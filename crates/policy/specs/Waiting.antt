@@ -1,7 +1,7 @@
 -- Who waits on whom, as the records of the last run tell.
-use Rattle.std.specs.Prelude.{ℕ, ◌+◌, ◌*◌, ◌/◌, ◌%◌, Bool, true, false, not, ◌&&◌, ◌||◌, List, [], ◌∷◌, Some, None, Option, ◌==◌, nat_le, nat_lt, slice_index_or}
+use Rattle.std.specs.Prelude.{ℕ, ◌+◌, ◌*◌, ◌/◌, ◌%◌, Bool, true, false, not, ◌&&◌, ◌||◌, List, Some, None, Option, ◌==◌, nat_le, nat_lt, slice_index_or}
 use Rattle.std.specs.Option.{option_map}
-use Rattle.std.specs.List.{slice_get}
+use Rattle.std.specs.List.{slice_get, list_any}
 use Rattle.model.specs.Book.{record_of}
 use Rattle.model.specs.Records.{Record, said}
 use Rattle.model.specs.declared.command.Command.{Command}
@@ -32,8 +32,7 @@ finds cs rs line = finds_by rs (slice_get cs line)
 
 -- one of the reads is of the file
 abbrev pub reads_file : ℕ → List Use → Bool
-reads_file f [] = false
-reads_file f (u ∷ us) = f == u.file || reads_file f us
+reads_file f us = list_any (λ u. f == u.file) us
 
 -- by their records, a line waits on an earlier one: a line without a record does, one with a record never waits on one without
 abbrev pub waits_by : Option Record → Option Record → Bool

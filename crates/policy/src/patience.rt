@@ -6,7 +6,7 @@ ghost use Rattle.policy.specs.Lines.{has};
 use crate::line_set::LineSet;
 
 /// How often in a row a policy may pass the front by, and how often it has just done so.
-#[derive(Clone, Copy)]
+#[derive(Clone, Copy, Debug, PartialEq, Eq)]
 pub struct Patience {
     limit: u8,
     passes: u8,
@@ -30,8 +30,7 @@ impl Patience {
     pub fn may_pass(&self, among: &LineSet, front: u8) -> bool
         ensures { result ≡ may_pass (has among.now) front self.now.limit self.now.passes }
     {
-        let due = self.passes == self.limit;
-        !due && among.leads(front)
+        self.passes != self.limit && among.leads(front)
     }
 
     /// A choice is taken: the front may be passed by, and the choice is in the set.

@@ -7,6 +7,7 @@ use crate::line_set::LineSet;
 
 /// Who acts next. A policy means two numbers: its patience, which never changes, and how often in a row it has just
 /// passed the front by. Whatever else it is, nobody relies on more.
+// Kept: the trait by which users bring a policy of their own, with its laws.
 pub trait Policy {
     ghost patience: { Self → ℕ };
 
@@ -30,6 +31,7 @@ pub fn passes_until_front<P: Policy>(policy: &mut P, among: &LineSet, front: u8)
     ensures passes { P.Policy.passes policy.new ≡ 0 }
     ensures same { P.Policy.patience policy.new ≡ P.Policy.patience policy.old }
 {
+    // Kept: a loop, since an ask changes the policy, and nothing is known of what a closure in a chain has changed.
     for passed in 0..33u8 {
         if policy.ask(among, front) == front {
             return passed;

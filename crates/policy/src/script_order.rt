@@ -7,7 +7,7 @@ use crate::line_set::LineSet;
 use crate::policy::Policy;
 
 /// The policy without patience: always the front.
-#[derive(Clone, Copy)]
+#[derive(Clone, Copy, Debug, PartialEq, Eq)]
 pub struct ScriptOrder;
 
 impl Policy for ScriptOrder {

@@ -4,7 +4,8 @@ mod found;
 mod methods;
 
 /// Who waits on whom among the 64 lines: for each line, 64 places that tell which lines it waits on.
-#[derive(Clone, Copy)]
+// Kept: one array and not an array of rows, since the check learns nothing of a row that a closure answers.
+#[derive(Clone, Copy, Debug, PartialEq, Eq)]
 pub struct Waits {
     table: [bool; 4096],
     ghost long: { length table ≡ 4096 },

@@ -4,7 +4,7 @@ ghost use Rattle.std.proofs.Common.{rules, arith};
 use policy::{LineSet, Policy};
 
 /// A policy that turns from the front to the line after it, and back.
-#[derive(Clone, Copy)]
+#[derive(Clone, Copy, Debug, PartialEq, Eq)]
 pub struct Alternating {
     passes: u8,
     ghost within: { passes ≤ 1 },

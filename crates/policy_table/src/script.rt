@@ -6,15 +6,13 @@ fn copy(from: u8, to: u8) -> Command {
         kind: Kind::Copy,
         a: from,
         b: to,
-        c: 0,
-        d: 0,
+        ..Command::default()
     }
 }
 
 /// The record of a command that reads one file.
 fn reads_one(command: Command, standing: Standing) -> Record {
-    let none = Use { file: 0, number: 0 };
-    let mut reads = [none; 16];
+    let mut reads = [Use::default(); 16];
     reads[0] = Use {
         file: command.a,
         number: 1,

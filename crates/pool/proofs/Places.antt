@@ -3,9 +3,9 @@ use Rattle.std.proofs.Common.{◌≡◌, ℕ, zero, suc, ◌+◌, ◌-◌, ◌<�
 use Rattle.std.proofs.lemmas.List.{length-take, length-drop, length-take-le, length-map, get_or-take, get_or-map, take_more, take-map, take-take}
 use Rattle.model.specs.Contents.{used}
 use Rattle.pool.specs.Pieces.{piece, pieces, nowhere, total}
-use Rattle.pool.specs.Stores.{Kept, held}
+use Rattle.pool.specs.Contents.{held}
+use Rattle.pool.specs.declared.holder.Pool.{Pool}
 use Rattle.pool.specs.declared.place.Place.{Place}
-use Rattle.pool.specs.declared.store.Store.{Store}
 
 pub total_push : (ps : List Place) (q : Place) → total (ps ++ q ∷ []) ≡ total ps + q.len
 total_push [] q = omega arith
@@ -39,51 +39,51 @@ used_map bs [] h = refl
 used_map bs (p ∷ ps) h =
     omega (arith, length_piece bs p (h 0 (omega arith)), used_map bs ps (λ k l. h (suc k) (omega arith)))
 
--- the facts of a store that are counted with
-pub all_places : (s : Store) → Kept s → s.count ≤ length s.places.now
-all_places s kept = omega (arith, kept.places)
+-- the facts of a pool that are counted with
+pub all_places : (s : Pool) → s.count ≤ length s.places.now
+all_places s = omega (arith, s.places_fit)
 
-pub all_bytes : (s : Store) → Kept s → s.used ≤ length s.bytes.now
-all_bytes s kept = omega (arith, kept.bytes)
+pub all_bytes : (s : Pool) → s.used ≤ length s.bytes.now
+all_bytes s = omega (arith, s.bytes_fit)
 
-pub inside : (s : Store) → Kept s → (k : ℕ) → k < s.count → (get_or s.places.now k nowhere).start + (get_or s.places.now k nowhere).len ≤ s.used
-inside s kept k h =
+pub inside : (s : Pool) → (k : ℕ) → k < s.count → (get_or s.places.now k nowhere).start + (get_or s.places.now k nowhere).len ≤ s.used
+inside s k h =
     let ps = s.places.now in
-    let all = all_places s kept in
+    let all = all_places s in
     let more = total_more ps k (omega arith) in
     let up = total_up ps (k + 1) s.count (omega arith) in
-    let start = kept.packed k h in
-    let filled = kept.filled in
+    let start = s.packed k h in
+    let filled = s.filled in
     omega arith
 
-pub used_pieces : (s : Store) → Kept s → (n : ℕ) → n ≤ s.count → used (pieces s.bytes.now n s.places.now) ≡ total (take n s.places.now)
-used_pieces s kept n h =
+pub used_pieces : (s : Pool) → (n : ℕ) → n ≤ s.count → used (pieces s.bytes.now n s.places.now) ≡ total (take n s.places.now)
+used_pieces s n h =
     let ps = s.places.now in
-    let all = all_places s kept in
-    let bytes = all_bytes s kept in
+    let all = all_places s in
+    let bytes = all_bytes s in
     let l = length-take-le n ps (omega arith) in
     used_map s.bytes.now (take n ps)
     (λ k lt.
     let below : k < n = omega arith in
-    let at = inside s kept k (omega arith) in
+    let at = inside s k (omega arith) in
     let same = get_or-take n ps k nowhere below in
     omega (arith, ap (λ p. p.start) same, ap (λ p. p.len) same))
 
 -- the count of the contents, and their bytes
-pub count_held : (s : Store) → Kept s → s.count ≡ length (held s)
-count_held s kept = sym (length_pieces s.bytes.now s.count s.places.now (all_places s kept))
+pub count_held : (s : Pool) → s.count ≡ length (held s)
+count_held s = sym (length_pieces s.bytes.now s.count s.places.now (all_places s))
 
-pub used_held : (s : Store) → Kept s → s.used ≡ used (held s)
-used_held s kept = kept.filled ∙ sym (used_pieces s kept s.count (omega arith))
+pub used_held : (s : Pool) → s.used ≡ used (held s)
+used_held s = s.filled ∙ sym (used_pieces s s.count (omega arith))
 
 -- a place starts where the contents before it end
-pub start_held : (s : Store) → Kept s → (k : ℕ) → k < s.count → (get_or s.places.now k nowhere).start ≡ used (take k (held s))
-start_held s kept k h =
-    kept.packed k h ∙ sym (used_pieces s kept k (omega arith)) ∙ ap used (sym (take_pieces s.bytes.now k s.count s.places.now (omega arith)))
+pub start_held : (s : Pool) → (k : ℕ) → k < s.count → (get_or s.places.now k nowhere).start ≡ used (take k (held s))
+start_held s k h =
+    s.packed k h ∙ sym (used_pieces s k (omega arith)) ∙ ap used (sym (take_pieces s.bytes.now k s.count s.places.now (omega arith)))
 
 -- the part of the bytes that a place tells, `bytes[start..start + len]`
-pub within_bytes : (s : Store) → Kept s → (k : ℕ) → k < s.count → (get_or s.places.now k nowhere).start + (get_or s.places.now k nowhere).len ≤ length s.bytes.now
-within_bytes s kept k h = let a = inside s kept k h in let b = all_bytes s kept in omega arith
+pub within_bytes : (s : Pool) → (k : ℕ) → k < s.count → (get_or s.places.now k nowhere).start + (get_or s.places.now k nowhere).len ≤ length s.bytes.now
+within_bytes s k h = let a = inside s k h in let b = all_bytes s in omega arith
 
 abbrev pub told : List ℕ → Place → List ℕ
 told bs p = take (p.start + p.len - p.start) (drop p.start bs)
@@ -91,18 +91,15 @@ told bs p = take (p.start + p.len - p.start) (drop p.start bs)
 told_piece : (bs : List ℕ) (p : Place) → told bs p ≡ piece bs p
 told_piece bs p = let same : p.start + p.len - p.start ≡ p.len = omega arith in ap (λ n. take n (drop p.start bs)) same
 
-pub read_at : (s : Store) → Kept s → (k : ℕ) → k < s.count → told s.bytes.now (get_or s.places.now k nowhere) ≡ get_or (held s) k []
-read_at s kept k h =
-    told_piece s.bytes.now (get_or s.places.now k nowhere) ∙ sym (getD_pieces s.bytes.now s.count s.places.now k (all_places s kept) h)
+pub read_at : (s : Pool) → (k : ℕ) → k < s.count → told s.bytes.now (get_or s.places.now k nowhere) ≡ get_or (held s) k []
+read_at s k h =
+    told_piece s.bytes.now (get_or s.places.now k nowhere) ∙ sym (getD_pieces s.bytes.now s.count s.places.now k (all_places s) h)
 
-told_length : (s : Store) → Kept s → (k : ℕ) → k < s.count → length (told s.bytes.now (get_or s.places.now k nowhere)) ≡ (get_or s.places.now k nowhere).len
-told_length s kept k h =
-    let p = get_or s.places.now k nowhere in ap length (told_piece s.bytes.now p) ∙ length_piece s.bytes.now p (within_bytes s kept k h)
+told_length : (s : Pool) → (k : ℕ) → k < s.count → length (told s.bytes.now (get_or s.places.now k nowhere)) ≡ (get_or s.places.now k nowhere).len
+told_length s k h =
+    let p = get_or s.places.now k nowhere in ap length (told_piece s.bytes.now p) ∙ length_piece s.bytes.now p (within_bytes s k h)
 
-pub part_at : (s : Store) → Kept s → (k : ℕ) → k < s.count → told s.bytes.now (get_or s.places.now k nowhere) ≡ take (length (told s.bytes.now (get_or s.places.now k nowhere))) (drop (get_or s.places.now k nowhere).start s.bytes.now)
-part_at s kept k h =
+pub part_at : (s : Pool) → (k : ℕ) → k < s.count → told s.bytes.now (get_or s.places.now k nowhere) ≡ take (length (told s.bytes.now (get_or s.places.now k nowhere))) (drop (get_or s.places.now k nowhere).start s.bytes.now)
+part_at s k h =
     let p = get_or s.places.now k nowhere in
-    told_piece s.bytes.now p ∙ ap (λ n. take n (drop p.start s.bytes.now)) (sym (told_length s kept k h))
-
-pub short_at : (s : Store) → Kept s → (k : ℕ) → k < s.count → length (told s.bytes.now (get_or s.places.now k nowhere)) ≤ 4096
-short_at s kept k h = omega (arith, told_length s kept k h, kept.short k h)
+    told_piece s.bytes.now p ∙ ap (λ n. take n (drop p.start s.bytes.now)) (sym (told_length s k h))

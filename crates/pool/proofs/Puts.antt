@@ -3,8 +3,8 @@ use Rattle.std.proofs.Common.{◌≡◌, ℕ, zero, suc, ◌+◌, ◌≤◌, tru
 use Rattle.std.proofs.lemmas.Bool.{cond-true, cond-false, cases_Bool, and_parts, leb-true}
 use Rattle.std.specs.Str.{bytes_eq}
 use Rattle.model.specs.Contents.{Content, Pool, used, mem, find, up, fits, given, put}
-use Rattle.pool.specs.Stores.{Kept, held, stands, places, room}
-use Rattle.pool.specs.declared.store.Store.{Store}
+use Rattle.pool.specs.Contents.{held, meant}
+use Rattle.pool.specs.declared.holder.Pool as Code
 use Rattle.pool.proofs.Places.{count_held, used_held}
 use Rattle.pool.proofs.Cuts.{with_contents}
 
@@ -43,12 +43,6 @@ pub given_none : (p : Pool) (x : Content) → mem x p.contents ≡ false → fit
 given_none p x m f =
     cond-false (mem x p.contents) (find x p.contents) (cond (fits p x) (length p.contents + 1) 0) m ∙ cond-false (fits p x) (length p.contents + 1) 0 f
 
-pub put_none : (p : Pool) (x : Content) → mem x p.contents ≡ false → fits p x ≡ false → p ≡ put p x
-unfolding with_contents
-put_none p x m f =
-    ap (with_contents p)
-    (sym (cond-false (mem x p.contents) p.contents (cond (fits p x) (p.contents ++ x ∷ []) p.contents) m ∙ cond-false (fits p x) (p.contents ++ x ∷ []) p.contents f))
-
 -- another content, for which there is room
 pub given_fresh : (p : Pool) (x : Content) → mem x p.contents ≡ false → fits p x ≡ true → length p.contents + 1 ≡ given p x
 given_fresh p x m f =
@@ -67,19 +61,20 @@ put_fresh p q x m f cs places room =
     ∙ ap (with_contents p)
     (sym (cond-false (mem x p.contents) p.contents (cond (fits p x) (p.contents ++ x ∷ []) p.contents) m ∙ cond-true (fits p x) (p.contents ++ x ∷ []) p.contents f))
 
--- what it says of a store that a content fits
-pub record Fitting (s : Store) (x : Content) : Type 0 where
+-- what it says of a pool that a content fits
+pub record Fitting (s : Code.Pool) (x : Content) : Type 0 where
   pub short : length x ≤ 4096
-  pub place : s.count + 1 ≤ places s
-  pub bytes : s.used + length x ≤ room s
+  pub place : s.count + 1 ≤ (meant s).places
+  pub bytes : s.used + length x ≤ (meant s).room
 
-pub fitting : (s : Store) → Kept s → (x : Content) → fits (stands s) x ≡ true → Fitting s x
-fitting s kept x e =
-    let outer = and_parts (leb (length x) 4096 && leb (length (held s) + 1) (places s)) (leb (used (held s) + length x) (room s)) e in
-    let inner = and_parts (leb (length x) 4096) (leb (length (held s) + 1) (places s)) outer.0 in
-    let count = count_held s kept in
-    let filled = used_held s kept in
+pub fitting : (s : Code.Pool) → (x : Content) → fits (meant s) x ≡ true → Fitting s x
+fitting s x e =
+    let p = meant s in
+    let outer = and_parts (leb (length x) 4096 && leb (length (held s) + 1) p.places) (leb (used (held s) + length x) p.room) e in
+    let inner = and_parts (leb (length x) 4096) (leb (length (held s) + 1) p.places) outer.0 in
+    let count = count_held s in
+    let filled = used_held s in
     let a = leb-true (length x) 4096 inner.0 in
-    let b = leb-true (length (held s) + 1) (places s) inner.1 in
-    let c = leb-true (used (held s) + length x) (room s) outer.1 in
+    let b = leb-true (length (held s) + 1) p.places inner.1 in
+    let c = leb-true (used (held s) + length x) p.room outer.1 in
     record { short = a; place = omega arith; bytes = omega arith }

@@ -1,4 +1,3 @@
 pub mod Pieces
-pub mod Stores
 pub mod Contents
 pub mod Sound

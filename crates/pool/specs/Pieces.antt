@@ -1,5 +1,5 @@
 -- Places in lent bytes, and the bytes that lie there.
-use Rattle.std.specs.Prelude.{ℕ, ◌+◌, List, [], ◌∷◌, map, take, drop}
+use Rattle.std.specs.Prelude.{◌≡◌, ℕ, ◌+◌, ◌<◌, ◌≤◌, List, [], ◌∷◌, map, take, drop, slice_index_or}
 use Rattle.pool.specs.declared.place.Place.{Place}
 
 abbrev pub nowhere : Place
@@ -17,3 +17,10 @@ pieces bytes count places = map (piece bytes) (take count places)
 abbrev pub total : List Place → ℕ
 total [] = 0
 total (p ∷ ps) = p.len + total ps
+
+-- each of the first `count` places starts where those before it end
+abbrev pub Packed : List Place → ℕ → Type 0
+Packed places count = (k : ℕ) → k < count → (slice_index_or places k nowhere).start ≡ total (take k places)
+
+abbrev pub Short : List Place → ℕ → Type 0
+Short places count = (k : ℕ) → k < count → (slice_index_or places k nowhere).len ≤ 4096

@@ -1,21 +1,25 @@
+ghost use Rattle.std.specs.Prelude.{◌≡◌, ◌≤◌, min, length, take};
+ghost use Rattle.pool.specs.Pieces.{pieces, total, Packed, Short};
 ghost use Rattle.pool.specs.Sound.{Apart};
-ghost use Rattle.pool.specs.Stores.{BytesFit, PlacesFit, Packed, Filled, Short, held};
 
-use crate::store::Store;
+use crate::Place;
 
-mod inner;
 mod methods;
 
+// Kept: lent memory, of which the pool counts what it uses; nothing in the library allocates.
 /// Contents, numbered from 1 in order of arrival, over lent bytes and lent places. No two are equal.
 ///
 /// It uses up to 65,536 bytes and 1,024 places of what it is lent.
 #[derive(Drop)]
 pub struct Pool<'a> {
-    store: Store<'a>,
-    ghost bytes_fit: { BytesFit store },
-    ghost places_fit: { PlacesFit store },
-    ghost packed: { Packed store },
-    ghost filled: { Filled store },
-    ghost short: { Short store },
-    ghost apart: { Apart (held store) },
+    bytes: &'a mut [u8],
+    places: &'a mut [Place],
+    used: usize,
+    count: u16,
+    ghost bytes_fit: { used ≤ min (length bytes.now) 65536 },
+    ghost places_fit: { count ≤ min (length places.now) 1024 },
+    ghost packed: { Packed places.now count },
+    ghost filled: { used ≡ total (take count places.now) },
+    ghost short: { Short places.now count },
+    ghost apart: { Apart (pieces bytes.now count places.now) },
 }

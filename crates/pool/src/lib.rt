@@ -5,7 +5,6 @@
 mod answers;
 mod holder;
 mod place;
-mod store;
 
 pub use answers::{Content, Found, NoRoom, Put};
 pub use holder::Pool;

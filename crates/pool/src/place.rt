@@ -1,5 +1,5 @@
 /// Where a content lies in the lent bytes.
-#[derive(Clone, Copy)]
+#[derive(Clone, Copy, Debug, PartialEq, Eq)]
 pub struct Place {
     pub(crate) start: usize,
     pub(crate) len: usize,

@@ -6,7 +6,7 @@
 use files::{FileStore, Table};
 use input::read_input;
 use model::Refusal;
-use pool::{NoRoom, Place, Pool, Put};
+use pool::{Place, Pool, Put};
 use script::Script;
 use std::io;
 use std::io::Write;
@@ -14,13 +14,18 @@ use std::io::Write;
 /// One byte more than a script may have, so that a longer text is seen to be too long.
 const MOST: usize = 16385;
 
-/// Puts each starting content into the pool and sets its file.
-fn put_starts(script: &Script, files: &mut Table, pool: &mut Pool) -> Result<(), NoRoom> {
-    for i in 0..64 {
-        if let Some(have) = script.have(i) {
-            let Put { number } = pool.put(have.content)?;
-            files.set(have.file, number);
-        }
+// Kept: the calls of the runner lay a script; this program does not build yet, and has no log to lay with.
+/// Reads a script, puts each starting content into the pool and sets its file.
+fn lay<'t>(
+    script: &mut Script<'t>,
+    text: &'t [u8],
+    files: &mut Table,
+    pool: &mut Pool,
+) -> Result<(), Refusal> {
+    script.read(text).map_err(|refused| refused.refusal)?;
+    for have in script.starts() {
+        let Put { number } = pool.put(have.content).map_err(|_| Refusal::NoRoomToLay)?;
+        files.set(have.file, number);
     }
     Ok(())
 }
@@ -40,24 +45,16 @@ fn state(rt: &HostRuntime, script: &Script, files: &Table, pool: &Pool) -> io::R
     Ok(())
 }
 
-fn print_refusal(rt: &HostRuntime, refusal: Refusal) -> io::Result<()> {
-    let number = refusal.number();
-    println!(rt; "refused {number}")
-}
-
 fn main(rt: HostRuntime) -> io::Result<()> {
     let mut buffer = [0u8; MOST];
     let len = read_input(&rt, &mut buffer)?;
-    let mut script = Script::new();
-    if let Err(refused) = script.read(&buffer[0..len]) {
-        return print_refusal(&rt, refused.refusal);
-    }
     let mut bytes = [0u8; 65536];
     let mut places = [Place::NOWHERE; 1024];
     let mut pool = Pool::new(&mut bytes, &mut places);
     let mut files = Table::new();
-    match put_starts(&script, &mut files, &mut pool) {
+    let mut script = Script::new();
+    match lay(&mut script, &buffer[0..len], &mut files, &mut pool) {
         Ok(()) => state(&rt, &script, &files, &pool),
-        Err(NoRoom) => print_refusal(&rt, Refusal::NoRoomToLay),
+        Err(refusal) => println!(rt; "refused {refusal}"),
     }
 }

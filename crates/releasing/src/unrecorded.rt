@@ -9,10 +9,10 @@ use policy::{LastRun, LineSet, Policy};
 
 /// The last-run policy of a book without records: every line waits on all earlier ones, so that it always answers the
 /// front.
-#[derive(Clone, Copy)]
+#[derive(Clone, Copy, Debug, PartialEq, Eq)]
 pub struct Unrecorded {
     policy: LastRun,
-    ghost waiting: { (line earlier : ℕ) → waits policy.waits line earlier ≡ nat_lt earlier line },
+    ghost waiting: { (line earlier : ℕ) → waits policy.choice line earlier ≡ nat_lt earlier line },
 }
 
 impl Unrecorded {
@@ -36,6 +36,7 @@ impl Policy for Unrecorded {
 
     ghost within = { first_of (Prim.search rules, Prim.grind (arith, Self.row.coded.inj)) };
 
+    // Kept: another policy than script order, that promises the same of a book without records.
     fn ask(&mut self, among: &LineSet, front: u8) -> u8
         ensures answers { Answered (has among.now) front result (record { patience = 0; before = 0; after = 0 }) }
         ensures same { ◌≡◌ {A = ℕ} 0 0 }

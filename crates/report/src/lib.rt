@@ -3,7 +3,7 @@
 
 mod first;
 mod held;
-mod output;
+mod numbers;
 mod reporting;
 
 pub use reporting::report;

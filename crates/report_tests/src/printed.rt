@@ -38,24 +38,6 @@ fn stopped() -> BuildRefusal {
     BuildRefusal::Stopped(stop, BUILT)
 }
 
-fn length(answer: Result<usize, Refusal>) -> usize {
-    match answer {
-        Ok(length) => length,
-        Err(_) => 0,
-    }
-}
-
-fn number(answer: Result<usize, Refusal>) -> u8 {
-    match answer {
-        Ok(_) => 0,
-        Err(refusal) => refusal.number(),
-    }
-}
-
-fn starts(out: &[u8], text: &[u8]) -> bool {
-    out.starts_with(text)
-}
-
 /// The report of a build after which file 0 has two bytes.
 fn reported(out: &mut [u8], outcome: Result<Built, BuildRefusal>) -> Result<usize, Refusal> {
     let mut bytes = [0; 8];
@@ -72,11 +54,14 @@ fn reported(out: &mut [u8], outcome: Result<Built, BuildRefusal>) -> Result<usiz
 #[test]
 fn kept_stopped_and_refused(rt: HostRuntime) {
     let mut out = [7; 2048];
-    assert_eq!(rt; length(reported(&mut out, Ok(BUILT))), 35);
-    assert!(rt; starts(&out, b"kept executed 2 skipped 0\n00 net 2\n\x07"));
-    assert_eq!(rt; length(reported(&mut out, Err(stopped()))), 38);
-    assert!(rt; starts(&out, b"stopped 33 read-write 05 0 1\n00 net 2\n"));
+    assert_eq!(rt; reported(&mut out, Ok(BUILT)), Ok(35));
+    assert!(rt; out.starts_with(b"kept executed 2 skipped 0\n00 net 2\n\x07"));
+    assert_eq!(rt; reported(&mut out, Err(stopped())), Ok(38));
+    assert!(rt; out.starts_with(b"stopped 33 read-write 05 0 1\n00 net 2\n"));
     let mut short = [7; 2047];
-    assert_eq!(rt; number(reported(&mut short, Ok(BUILT))), 16);
+    assert_eq!(rt;
+        reported(&mut short, Ok(BUILT)),
+        Err(Refusal::ReportBufferShort)
+    );
     assert!(rt; short == [7; 2047]);
 }

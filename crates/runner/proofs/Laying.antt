@@ -1,7 +1,7 @@
 -- Laying content by content: what is left of the starting contents gives the files and the pool.
-use Rattle.std.proofs.Common.{◌≡◌, ℕ, zero, suc, ◌+◌, ◌<◌, ◌≤◌, true, false, cond, eqb, List, [], ◌∷◌, length, get_or, drop, set, Some, None, Err, Option, Result, sym, refl, ap, ◌∙◌, arith}
+use Rattle.std.proofs.Common.{◌≡◌, ℕ, zero, suc, ◌+◌, ◌<◌, ◌≤◌, true, false, cond, eqb, List, [], ◌∷◌, map, length, get_or, drop, set, Some, None, Err, Option, Result, sym, refl, ap, ◌∙◌, arith}
 use Rattle.std.proofs.lemmas.List.{length-map, at_drop_more, at_drop_all}
-use Rattle.std.proofs.lemmas.Option.{slice_get-get_or}
+use Rattle.std.proofs.lemmas.Option.{slice_get-get_or, slice_get-map}
 use Rattle.std.proofs.lemmas.Bool.{cond-true, cond-false, eq-eqb, ne_eqb}
 use Rattle.std.specs.Option.{option_map}
 use Rattle.std.specs.List.{slice_get}
@@ -28,8 +28,17 @@ at_have [] i o e = ap (option_map have_of) e
 at_have (s ∷ ss) zero o e = ap (option_map have_of) e
 at_have (s ∷ ss) (suc i) o e = at_have ss i o e
 
+-- the starting content at a place of the list that is handed out
+pub at_start : {X : Type 0} (start : X → Start) (xs : List X) (ss : List Start) (i : ℕ) (d : X) → map start xs ≡ ss → i < length xs → Some (have_of (start (get_or xs i d))) ≡ slice_get (haves_of ss) i
+at_start start xs ss i d same lt =
+    at_have ss i (Some (start (get_or xs i d)))
+    (ap (option_map start) (sym (slice_get-get_or xs i d lt)) ∙ sym (slice_get-map start xs i) ∙ ap (λ ys. slice_get ys i) same)
+
 pub length_haves : (ss : List Start) → length (haves_of ss) ≡ length ss
 length_haves ss = length-map ss have_of
+
+pub length_starts : {X : Type 0} (start : X → Start) (xs : List X) (ss : List Start) → map start xs ≡ ss → length (haves_of ss) ≡ length xs
+length_starts start xs ss same = length_haves ss ∙ ap length (sym same) ∙ length-map xs start
 
 -- what is left gives the answer, and the pool began as it was
 pub record Left (hs : List Have) (fs gs : List ℕ) (p q : Pool) (i : ℕ) : Type 0 where

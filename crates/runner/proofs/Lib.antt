@@ -1,3 +1,4 @@
+pub mod Always
 pub mod Asks
 pub mod Audits
 pub mod Begins

@@ -1,22 +1,23 @@
 -- What a working step leaves: the record that it finds, the room that it has, the facts of a log, and the world.
-use Rattle.std.proofs.Common.{◌≡◌, ℕ, ◌+◌, ◌<◌, ◌≤◌, Bool, true, false, cond, not, ◌&&◌, ltb, List, ◌∷◌, length, get_or, set, Some, None, Option, sym, refl, ap, ◌∙◌, inl, inr, arith}
-use Rattle.std.proofs.lemmas.List.{get_or_default, get_or-set_same, get_or-set_other}
+use Rattle.std.proofs.Common.{◌≡◌, ℕ, ◌+◌, ◌<◌, ◌≤◌, Bool, true, false, cond, not, ◌&&◌, ltb, List, ◌∷◌, length, min, get_or, set, Some, None, Option, Ok, Err, Result, sym, refl, ap, ◌∙◌, inl, inr, arith}
+use Rattle.std.proofs.lemmas.List.{get_or_default, get_or-set_same, get_or-set_other, length-take}
 use Rattle.std.proofs.lemmas.Bool.{and_parts, ltb-true, not-true, cases_eq}
+use Rattle.std.specs.Result.{result_err}
 use Rattle.lists.specs.Held.{held, room}
 use Rattle.engine.specs.States.{outcome}
 use Rattle.model.specs.declared.command.Command.{Command}
 use Rattle.model.specs.declared.command.Kind.TheVariants.{Copy}
-use Rattle.model.specs.declared.record.Use.{Use}
+use Rattle.model.specs.declared.record.Record as Code
 use Rattle.model.specs.declared.run.Entry.{Entry}
 use Rattle.model.specs.declared.run.LineState.{LineState}
 use Rattle.model.specs.declared.run.LineState.TheVariants.{Waiting}
 use Rattle.model.specs.declared.run.Stop.{Stop}
-use Rattle.model.specs.Acts.{State, reached, stop_of, act, line_state}
+use Rattle.model.specs.Acts.{State, Outcome, goes, stops, reached, stop_of, act, line_state}
 use Rattle.model.specs.Book.{own, record_of}
 use Rattle.model.specs.Commands.{Want, want, wants}
 use Rattle.model.specs.Contents.{Content, Pool}
 use Rattle.model.specs.Hazards.{fresh, ended}
-use Rattle.model.specs.Records.{Record}
+use Rattle.model.specs.Records.{Record, said}
 use Rattle.model.specs.Step.{left, match, all_held, usable, skips, skip, record_for, work_by, work, noting, moved, after_work}
 use Rattle.model.specs.World.{World, state}
 use Rattle.runner.specs.declared.log.Inner.{Inner}
@@ -27,13 +28,27 @@ use Rattle.runner.proofs.Grown.{Grown, only_same, act_grows, skip_grows}
 use Rattle.runner.proofs.Lines.{lines_counted, wants_at, skips_at_place}
 use Rattle.runner.proofs.Made.{room_left, fresh_none, state_ended, state_waiting}
 
-reached_is : (y : Option Stop) (s : State) → reached (outcome y s) ≡ s
+-- what a line came to, by the stop that it met
+abbrev pub stopping : Option Stop → State → Outcome
+stopping None s = goes s
+stopping (Some y) s = stops s y
+
+-- the same by the answer of the act
+pub as_stopping : (r : Result (Unit {0}) Stop) (y : Option Stop) (s : State) {o : Outcome} → y ≡ result_err r → outcome r s ≡ o → stopping y s ≡ o
+as_stopping (Ok x) y s e h = rw e h
+as_stopping (Err x) y s e h = rw e h
+
+reached_is : (y : Option Stop) (s : State) → reached (stopping y s) ≡ s
 reached_is None s = refl
 reached_is (Some y) s = refl
 
-stop_is : (y : Option Stop) (s : State) → stop_of (outcome y s) ≡ y
+stop_is : (y : Option Stop) (s : State) → stop_of (stopping y s) ≡ y
 stop_is None s = refl
 stop_is (Some y) s = refl
+
+-- a record of the code has at most 16 reads
+pub said_few : (x : Code.Record) → length (said x).reads ≤ 16
+said_few x = omega (arith, length-take (min x.count 16) x.reads)
 
 -- A LINE THAT IS LEFT
 module _ (i : Inner) (l : ℕ) (m : left (length (notes i.run).commands) (held i.entries) l ≡ true) where
@@ -120,14 +135,14 @@ module _ (i : Inner) (l : ℕ) (m : left (length (notes i.run).commands) (held i
       pub not_found : (d : Command) → true ≡ is_waiting (get_or i.run.states l st) → None ≡ record_of (get_or i.run.commands l d) rs → None ≡ record_for w l
       not_found d e f = by_record d true None e f
 
-      pub by_tests : (d : Command) (q : Record) (a b : Bool) (us : List Use) → true ≡ is_waiting (get_or i.run.states l st) → Some q ≡ record_of (get_or i.run.commands l d) rs → a ≡ own q.standing → us ≡ q.reads → b ≡ (all_held p (q.write ∷ us) && match fs us) → cond (a && b) (Some q) None ≡ record_for w l
-      by_tests d q a b us e f t r u =
+      pub by_tests : (d : Command) (q : Record) (a b : Bool) → true ≡ is_waiting (get_or i.run.states l st) → Some q ≡ record_of (get_or i.run.commands l d) rs → a ≡ own q.standing → b ≡ (all_held p (q.write ∷ q.reads) && match fs q.reads) → cond (a && b) (Some q) None ≡ record_for w l
+      by_tests d q a b e f t u =
           ap (λ z. cond (z && b) (Some q) None) t
-          ∙ ap (λ z. cond (own q.standing && z) (Some q) None) (u ∙ ap (λ z. all_held p (q.write ∷ z) && match fs z) r)
+          ∙ ap (λ z. cond (own q.standing && z) (Some q) None) u
           ∙ by_record d true (Some q) e f
 
     -- what came out is what the world's work comes to
-    module _ (y : Option Stop) (s : State) (is_work : outcome y s ≡ work w l) where
+    module _ (y : Option Stop) (s : State) (is_work : stopping y s ≡ work w l) where
       pub stops_as : y ≡ stop_of (work w l)
       stops_as = sym (stop_is y s) ∙ ap stop_of is_work
 
@@ -138,15 +153,29 @@ module _ (i : Inner) (l : ℕ) (m : left (length (notes i.run).commands) (held i
           ∙ ap (λ (b : Bool). record { files = s.files; pool = s.pool; entries = s.entries; log_places = room i.entries; notes = notes j.run; is_open = b; records = rs; book_places = n }) o
           ∙ ap (moved w s) t
           ∙ ap (λ z. moved w z (noting (notes i.run) l z y)) (sym (reached_is y s))
-          ∙ ap (λ z. moved w (reached (outcome y s)) (noting (notes i.run) l (reached (outcome y s)) z)) (sym (stop_is y s))
+          ∙ ap (λ z. moved w (reached (stopping y s)) (noting (notes i.run) l (reached (stopping y s)) z)) (sym (stop_is y s))
           ∙ ap (after_work w l) is_work
 
+    -- the log whose line is turned after it came to s and met the stop y, if any
+    pub record Turned (y : Option Stop) (s : State) (j : Inner) : Type 0 where
+      pub entries : held j.entries ≡ s.entries
+      pub rooms : room j.entries ≡ room i.entries
+      pub lines : j.run.lines ≡ i.run.lines
+      pub opened : j.run.opened ≡ true
+      pub noted : notes j.run ≡ noting (notes i.run) l s y
+
+    -- and what it is then
+    pub record LeftBy (y : Option Stop) (s : State) (j : Inner) : Type 0 where
+      pub kept : Kept j
+      pub stop : y ≡ stop_of (work w l)
+      pub world : world_of s.files s.pool j rs n ≡ after_work w l (work w l)
+
     -- AN ACT
-    module _ (d : Command) (y : Option Stop) (s : State) (acted : outcome y s ≡ act (want (get_or i.run.commands l d)) l (state w)) where
-      by_wants : outcome y s ≡ act (wants (notes i.run).commands l) l (state w)
+    module _ (d : Command) (y : Option Stop) (s : State) (acted : stopping y s ≡ act (want (get_or i.run.commands l d)) l (state w)) where
+      by_wants : stopping y s ≡ act (wants (notes i.run).commands l) l (state w)
       by_wants = acted ∙ ap (λ k. act k l (state w)) (wants_here d)
 
-      pub act_works : None ≡ record_for w l → outcome y s ≡ work w l
+      pub act_works : None ≡ record_for w l → stopping y s ≡ work w l
       act_works f = by_wants ∙ ap (λ o. work_by o (notes i.run).commands l (state w)) f
 
       pub act_leaves : Kept i → Grown l (held i.entries) s.entries
@@ -154,8 +183,18 @@ module _ (i : Inner) (l : ℕ) (m : left (length (notes i.run).commands) (held i
           let same : (reached (act (wants (notes i.run).commands l) l (state w))).entries ≡ s.entries = ap (λ o. (reached o).entries) (sym by_wants) ∙ ap (λ z. z.entries) (reached_is y s) in
           rw same at (act_grows (notes i.run).commands l (state w) not_ended (one_more kept))
 
+      -- what an act leaves, once the line is turned
+      pub after_act : Kept i → None ≡ record_for w l → (j : Inner) → Turned y s j → LeftBy y s j
+      after_act kept none j t =
+          let works = act_works none in
+          record {
+            kept = kept_again kept y s j t.entries t.rooms t.lines t.noted (act_leaves kept);
+            stop = stops_as y s works;
+            world = world_after y s works j t.entries t.rooms t.opened t.noted;
+          }
+
     -- A SKIP by a record: the line has made no act
-    module _ (q : Record) (found : Some q ≡ record_for w l) (us : List Use) (few : length us ≤ 16) where
+    module _ (q : Record) (found : Some q ≡ record_for w l) (few : length q.reads ≤ 16) where
       is_fresh : fresh l (held i.entries) ≡ true
       is_fresh = by (fresh l (held i.entries)) _ (found ∙ record_is q.command)
         where
@@ -163,18 +202,27 @@ module _ (i : Inner) (l : ℕ) (m : left (length (notes i.run).commands) (held i
           by true o k = refl
           by false o k = let z : ◌≡◌ {A = ℕ} 0 1 = cc in absurd (omega arith)
 
-      fits : made l (held i.entries) + (length us + 1) ≤ 17
+      fits : made l (held i.entries) + (length q.reads + 1) ≤ 17
       fits = let z = fresh_none l (held i.entries) is_fresh in omega arith
 
-      pub skip_room : Kept i → length (held i.entries) + length us < room i.entries
-      skip_room kept = omega (arith, rooms kept (length us + 1) fits)
+      pub skip_room : Kept i → length (held i.entries) + length q.reads < room i.entries
+      skip_room kept = omega (arith, rooms kept (length q.reads + 1) fits)
 
-      module _ (y : Option Stop) (s : State) (skipped : outcome y s ≡ skip l us q.write (state w)) where
-        pub skip_works : us ≡ q.reads → outcome y s ≡ work w l
-        skip_works r = skipped ∙ ap (λ z. skip l z q.write (state w)) r ∙ ap (λ o. work_by o (notes i.run).commands l (state w)) found
+      module _ (y : Option Stop) (s : State) (skipped : stopping y s ≡ skip l q.reads q.write (state w)) where
+        pub skip_works : stopping y s ≡ work w l
+        skip_works = skipped ∙ ap (λ o. work_by o (notes i.run).commands l (state w)) found
 
         pub skip_leaves : Grown l (held i.entries) s.entries
         skip_leaves =
-            let same : (reached (skip l us q.write (state w))).entries ≡ s.entries = ap (λ o. (reached o).entries) (sym skipped) ∙ ap (λ z. z.entries) (reached_is y s) in
+            let same : (reached (skip l q.reads q.write (state w))).entries ≡ s.entries = ap (λ o. (reached o).entries) (sym skipped) ∙ ap (λ z. z.entries) (reached_is y s) in
             let z = fits in
-            rw same at (skip_grows l us q.write (held i.entries) (state w) (only_same l (held i.entries)) not_ended (omega arith))
+            rw same at (skip_grows l q.reads q.write (held i.entries) (state w) (only_same l (held i.entries)) not_ended (omega arith))
+
+        -- what a skip leaves, once the line is turned
+        pub after_skip : Kept i → (j : Inner) → Turned y s j → LeftBy y s j
+        after_skip kept j t =
+            record {
+              kept = kept_again kept y s j t.entries t.rooms t.lines t.noted skip_leaves;
+              stop = stops_as y s skip_works;
+              world = world_after y s skip_works j t.entries t.rooms t.opened t.noted;
+            }

@@ -12,6 +12,8 @@ ghost use Rattle.trace.specs.Format.{decoded};
 ghost use Rattle.trace_write.specs.Laws.{RoundTrip};
 ghost use Rattle.runner.specs.Views.{records, places, world_of, world};
 
+// Kept throughout: files, pool, log and book are parameters of their own, each taken as weakly as a call needs it.
+
 use crate::book::Book;
 use crate::log::Log;
 use crate::ticket::Ticket;

@@ -5,7 +5,7 @@ use crate::states::is_waiting;
 use model::{LineState, Stepped};
 
 /// How many lines the steps of a run executed and skipped.
-#[derive(Clone, Copy)]
+#[derive(Clone, Copy, Debug, PartialEq, Eq)]
 pub(crate) struct Counts {
     pub executed: u8,
     pub skipped: u8,

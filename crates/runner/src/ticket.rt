@@ -26,6 +26,7 @@ impl Ticket {
         }
     }
 
+    // Kept: by the rules a blank ticket tells why; step, close and build make their own error of it.
     /// Why it is blank; none where it is live.
     pub fn refusal(&self) -> Option<Refusal>
         ensures { result ≡ self.now.refusal }
@@ -33,6 +34,7 @@ impl Ticket {
         self.refusal
     }
 
+    // Kept: the same.
     /// Takes the ticket back, and tells why it was blank.
     pub(crate) fn spend(self) -> Option<Refusal>
         ensures { result ≡ self.refusal }

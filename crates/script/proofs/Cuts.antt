@@ -1,6 +1,6 @@
 -- The first piece of a text, and the first word of a line.
 use Rattle.std.proofs.Common.{◌≡◌, ℕ, zero, suc, ◌+◌, ◌-◌, ◌<◌, ◌≤◌, eqb, List, [], ◌∷◌, length, get_or, take, drop, sym, refl, ap, ◌∙◌, inl, inr, arith}
-use Rattle.std.proofs.lemmas.List.{length-take-le, length-drop, drop_all, drop-drop, get_or-drop}
+use Rattle.std.proofs.lemmas.List.{length-take-le, length-drop, drop_all, take_all, drop-drop, get_or-drop}
 use Rattle.std.proofs.lemmas.Bool.{cond-true, cond-false, eq-eqb, ne_eqb, cases_lt}
 use Rattle.script.specs.Text.{onto, cut, filled, words}
 use Rattle.script.specs.Words.{FirstWord}
@@ -41,54 +41,33 @@ words_first s n h w without ends =
     ∙ filled_some (take n s) (cut 32 (drop (suc n) s)) (omega arith)
     ∙ ap (λ ws. take n s ∷ ws) (words_on s n w ends)
 
--- the same at a place of the text, as the lexer's loops say it
-module _ (text : List ℕ) (from to : ℕ) (low : from ≤ to) (within : to ≤ length text) where
-  place : (k : ℕ) → get_or (drop from text) k 0 ≡ get_or text (from + k) 0
-  place k = get_or-drop from text k 0
+-- no word, where the text has spaces alone
+pub no_word : (s : List ℕ) → ((k : ℕ) → k < length s → get_or s k 0 ≡ 32) → words s ≡ []
+no_word s blank = words_skip s (length s) (omega arith) blank ∙ ap words (drop_all (length s) s (omega arith))
 
-  pub line_first : (c : ℕ) → from < length text → ((k : ℕ) → from ≤ k → k < to → get_or text k 0 ≡ c → ⊥) → (to < length text → get_or text to 0 ≡ c) → cut c (drop from text) ≡ take (to - from) (drop from text) ∷ cut c (drop (to + 1) text)
-  line_first c some without ends =
-      let l = length-drop from text in
-      let back : from + (to - from) ≡ to = omega arith in
-      let more : from + suc (to - from) ≡ to + 1 = omega arith in
-      cut_first c (drop from text) (to - from) (omega arith) (omega arith) (λ k lt e. without (from + k) (omega arith) (omega arith) (sym (place k) ∙ e))
-      (λ lt. place (to - from) ∙ ap (λ i. get_or text i 0) back ∙ ends (omega arith))
-      ∙ ap (λ s. take (to - from) (drop from text) ∷ cut c s) (drop-drop (suc (to - from)) from text ∙ ap (λ i. drop i text) more)
-
-  pub skip_to : ((k : ℕ) → from ≤ k → k < to → get_or text k 0 ≡ 32) → words (drop from text) ≡ words (drop to text)
-  skip_to blank =
-      let l = length-drop from text in
-      let back : from + (to - from) ≡ to = omega arith in
-      words_skip (drop from text) (to - from) (omega arith) (λ k lt. place k ∙ blank (from + k) (omega arith) (omega arith))
-      ∙ ap words (drop-drop (to - from) from text ∙ ap (λ i. drop i text) back)
-
-  pub word_to : from < to → ((k : ℕ) → from ≤ k → k < to → get_or text k 0 ≡ 32 → ⊥) → (to < length text → get_or text to 0 ≡ 32) → words (drop from text) ≡ take (to - from) (drop from text) ∷ words (drop to text)
-  word_to some without ends =
-      let l = length-drop from text in
-      let back : from + (to - from) ≡ to = omega arith in
-      words_first (drop from text) (to - from) (omega arith) (omega arith) (λ k lt e. without (from + k) (omega arith) (omega arith) (sym (place k) ∙ e))
-      (λ lt. place (to - from) ∙ ap (λ i. get_or text i 0) back ∙ ends (omega arith))
-      ∙ ap (λ s. take (to - from) (drop from text) ∷ words s) (drop-drop (to - from) from text ∙ ap (λ i. drop i text) back)
-
--- the lexer's two steps: past the spaces, and to the end of the word
-pub no_word : (line : List ℕ) (from start : ℕ) → from ≤ start → start ≤ length line → ((k : ℕ) → from ≤ k → k < start → get_or line k 0 ≡ 32) → length line ≤ start → words (drop from line) ≡ []
-no_word line from start low within blank over = skip_to line from start low within blank ∙ ap words (drop_all start line over)
-
-pub one_word : (line : List ℕ) (from start end : ℕ) → from ≤ start → start ≤ length line → ((k : ℕ) → from ≤ k → k < start → get_or line k 0 ≡ 32) → (start < length line → get_or line start 0 ≡ 32 → ⊥) → start < length line → start ≤ end → end ≤ length line → ((k : ℕ) → start ≤ k → k < end → get_or line k 0 ≡ 32 → ⊥) → (end < length line → get_or line end 0 ≡ 32) → FirstWord line from start (take (end - start) (drop start line))
-one_word line from start end low within blank seen some low' within' without ends =
-    let more : start < end = elim (cases_lt start end) [
+-- a word at a place of the text, some spaces on
+pub one_word : (text : List ℕ) (from n len : ℕ) → n < length (drop from text) → ((k : ℕ) → k < n → get_or (drop from text) k 0 ≡ 32) → (get_or (drop from text) n 0 ≡ 32 → ⊥) → len ≤ length (drop (from + n) text) → ((k : ℕ) → k < len → get_or (drop (from + n) text) k 0 ≡ 32 → ⊥) → (len < length (drop (from + n) text) → get_or (drop (from + n) text) len 0 ≡ 32) → FirstWord text from (from + n) (take len (drop (from + n) text))
+one_word text from n len some blank seen within without ends =
+    let rest = drop (from + n) text in
+    let d : drop n (drop from text) ≡ rest = drop-drop n from text in
+    let lf = length-drop from text in
+    let lr = length-drop (from + n) text in
+    let first : get_or rest 0 0 ≡ get_or (drop from text) n 0 = ap (λ s. get_or s 0 0) (sym d) ∙ get_or-drop n (drop from text) 0 0 ∙ ap (λ i. get_or (drop from text) i 0) (omega arith) in
+    let more : 0 < len = elim (cases_lt 0 len) [
       | inl h ↦ h
-      | inr h ↦ let same : end ≡ start = omega arith in absurd (seen some (ap (λ i. get_or line i 0) (sym same) ∙ ends (omega arith)))
+      | inr h ↦ (let z : 0 ≡ len = omega arith in absurd (seen (sym first ∙ ap (λ i. get_or rest i 0) z ∙ ends (omega arith))))
     ] in
-    let d = length-drop start line in
-    let l : length (take (end - start) (drop start line)) ≡ end - start = length-take-le (end - start) (drop start line) (omega arith) in
-    let e : start + length (take (end - start) (drop start line)) ≡ end = omega arith in
+    let l : length (take len rest) ≡ len = length-take-le len rest within in
     record {
       first =
-          skip_to line from start low within blank ∙ word_to line start end low' within' more without ends
-          ∙ ap (λ i. take (end - start) (drop start line) ∷ words (drop i line)) (sym e);
-      part = ap (λ n. take n (drop start line)) (sym l);
-      after = low;
+          words_skip (drop from text) n (omega arith) blank ∙ ap words d ∙ words_first rest len more within without ends
+          ∙ ap (λ s. take len rest ∷ words s) (drop-drop len (from + n) text ∙ ap (λ m. drop (from + n + m) text) (sym l));
+      part = ap (λ m. take m rest) (sym l);
+      after = omega arith;
       some = omega arith;
       within = omega arith;
     }
+
+-- the part of a list from a place on
+pub end_part : (xs : List ℕ) (n : ℕ) → take (length xs - n) (drop n xs) ≡ drop n xs
+end_part xs n = let l = length-drop n xs in take_all (length xs - n) (drop n xs) (omega arith)

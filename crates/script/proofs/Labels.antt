@@ -1,8 +1,8 @@
--- The search for a label, and for several.
-use Rattle.std.proofs.Common.{◌≡◌, ℕ, suc, ◌+◌, ◌-◌, ◌<◌, ◌≤◌, true, false, cond, List, [], ◌∷◌, ◌++◌, map, length, get_or, take, drop, set, replicate, Some, None, Option, sym, refl, ap, ◌∙◌, append_assoc, append-nil, arith, Bor}
+-- The place of a label, and the files of several.
+use Rattle.std.proofs.Common.{◌≡◌, ℕ, ◌+◌, ◌-◌, ◌<◌, ◌≤◌, Bool, cond, not, List, [], ◌∷◌, ◌++◌, map, length, get_or, take, drop, set, replicate, Some, None, Option, sym, refl, ap, ◌∙◌, append_assoc, append-nil, arith, Bor}
 use Rattle.std.proofs.lemmas.List.{at_drop_more, at_drop_all, get_or-map, length-map, take_more_set, drop-set-lt, drop-drop, drop-replicate, take-append-drop, length-take-le, length-set}
 use Rattle.std.specs.Option.{option_map}
-use Rattle.std.specs.Str.{bytes_eq}
+use Rattle.std.specs.List.{position, position_or_len}
 use Rattle.script.specs.Text.{file_of, before, files_of}
 use Rattle.script.specs.Views.{four}
 
@@ -22,33 +22,16 @@ pub mapped_same : {X : Type 0} (f : X → X) → ((x : X) → f x ≡ x) → (o 
 mapped_same f e None = refl
 mapped_same f e (Some x) = ap Some (e x)
 
--- what is left of the labels gives the answer, i files on
-abbrev pub Sought : List Ref → List ℕ → ℕ → Type 0
-Sought rs w i = option_map (λ n. i + n) (file_of (drop i (map (λ x. x.now) rs)) w) ≡ file_of (map (λ x. x.now) rs) w
+-- the place of the first reference to what passes
+prefix_map : {X Y : Type 0} (p : Y → Bool) (f : X → Y) (xs : List X) → position_or_len p (map f xs) ≡ position_or_len (λ x. p (f x)) xs
+prefix_map p f [] = refl
+prefix_map p f (x ∷ xs) = ap (λ n. cond (not (p (f x))) (1 + n) 0) (prefix_map p f xs)
 
-pub sought_none : (rs : List Ref) (w : List ℕ) → Sought rs w 0
-sought_none rs w = mapped_same (λ n. 0 + n) (λ n. omega arith) (file_of (map (λ x. x.now) rs) w)
-
-module _ (rs : List Ref) (w : List ℕ) (i : ℕ) (d : Ref) (inv : Sought rs w i) where
-  at_i : i < length rs → option_map (λ n. i + n) (cond (bytes_eq (get_or rs i d).now w) (Some 0) (option_map suc (file_of (drop (i + 1) (map (λ x. x.now) rs)) w))) ≡ file_of (map (λ x. x.now) rs) w
-  at_i h = ap (option_map (λ n. i + n)) (sym (at_refs (λ l. file_of l w) rs i d h)) ∙ inv
-
-  pub sought_here : i < length rs → true ≡ bytes_eq (get_or rs i d).now w → Some i ≡ file_of (map (λ x. x.now) rs) w
-  sought_here h e =
-      ap Some (omega arith)
-      ∙ ap (λ b. option_map (λ n. i + n) (cond b (Some 0) (option_map suc (file_of (drop (i + 1) (map (λ x. x.now) rs)) w)))) e
-      ∙ at_i h
-
-  pub sought_more : i < length rs → false ≡ bytes_eq (get_or rs i d).now w → Sought rs w (i + 1)
-  sought_more h e =
-      sym (mapped_mapped suc (λ n. i + n) (λ n. i + 1 + n) (λ n. omega arith) (file_of (drop (i + 1) (map (λ x. x.now) rs)) w))
-      ∙ ap (λ b. option_map (λ n. i + n) (cond b (Some 0) (option_map suc (file_of (drop (i + 1) (map (λ x. x.now) rs)) w)))) e
-      ∙ at_i h
-
-pub sought_all : (rs : List Ref) (w : List ℕ) (i : ℕ) (inv : Sought rs w i) → length rs ≤ i → None ≡ file_of (map (λ x. x.now) rs) w
-sought_all rs w i inv h =
-    let l = length-map rs (λ x. x.now) in
-    ap (option_map (λ n. i + n)) (sym (at_drop_all (λ s. file_of s w) (map (λ x. x.now) rs) i (omega arith))) ∙ inv
+pub position_map : {X Y : Type 0} (p : Y → Bool) (f : X → Y) (xs : List X) → position p (map f xs) ≡ position (λ x. p (f x)) xs
+position_map p f xs =
+    let l = length-map xs f in
+    let e = prefix_map p f xs in
+    cc
 
 -- the first i files are found, and the others are 0
 pub record Filled (ls : List (List ℕ)) (rs : List Ref) (files : List ℕ) (i : ℕ) : Type 0 where

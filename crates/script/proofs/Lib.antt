@@ -1,9 +1,8 @@
 mod Adds
 mod Cuts
-mod EachByte
 mod Facts
-mod Gets
 mod Labels
+mod Places
 mod Sounds
 mod Splits
 mod TextLines

@@ -1,11 +1,12 @@
 -- Each script that is read is sound.
-use Rattle.std.proofs.Common.{◌≡◌, ℕ, zero, suc, ◌+◌, ◌<◌, ◌≤◌, true, false, cond, not, ◌&&◌, eqb, ltb, leb, List, [], ◌∷◌, length, get_or, set, replicate, is_some, Some, None, Ok, Err, Option, Result, sym, refl, ap, ◌∙◌, subst, inl, inr, arith}
+use Rattle.std.proofs.Common.{◌≡◌, ℕ, zero, suc, ◌+◌, ◌<◌, ◌≤◌, false, cond, not, ◌&&◌, eqb, ltb, leb, List, [], ◌∷◌, length, get_or, set, replicate, is_some, Some, None, Ok, Err, Option, Result, sym, refl, ap, ◌∙◌, subst, inl, inr, arith}
 use Rattle.std.proofs.ByRecursion.{All-push}
 use Rattle.std.proofs.lemmas.Slice.Eq.{bytes_eq-Decides}
 use Rattle.std.proofs.lemmas.List.{length-set, length_push, get_or-set_same, get_or-set_other, get_or-replicate}
-use Rattle.std.proofs.lemmas.Bool.{cond-true, cond-false, cond_both, both_ways, cases_Bool, cases_eq, ltb-true, ltb-false, leb-true, and_parts, not-true}
-use Rattle.std.specs.Option.{option_map}
-use Rattle.std.specs.List.{AllByRecursion}
+use Rattle.std.proofs.lemmas.Bool.{cond_both, both_ways, cases_eq, ltb-true, ltb-false, leb-true, and_parts, not-true}
+use Rattle.std.proofs.lemmas.Iterator.Adapters.{position_from-zero}
+use Rattle.std.proofs.lemmas.List.Quantifiers.{position-Some}
+use Rattle.std.specs.List.{AllByRecursion, list_all}
 use Rattle.std.specs.Str.{bytes_eq}
 use Rattle.model.specs.declared.refusal.Refusal.{Refusal}
 use Rattle.model.specs.declared.refusal.Refusal.TheVariants.{TextTooLong, BadTextLine, BadLabel, ScriptFull, HaveTooLong}
@@ -15,40 +16,17 @@ use Rattle.script.specs.declared.verb.Verb.{Verb}
 use Rattle.script.specs.declared.verb.Verb.TheVariants as verb
 use Rattle.model.specs.Digits.{file_number}
 use Rattle.model.specs.Numbers.{arity}
+use Rattle.script.proofs.Places.{none_passes}
 use Rattle.script.specs.Sound.{LabelsApart, Sound, Starts, Acts, Holds}
-use Rattle.script.specs.Text.{label_byte, command_on, given, two, free, add_label, add_have, add_command, verb_line, words_line, line_adds, with_label, with_have, with_command, Meaning, Start, nothing, then, from_line, reading, lines, words, all, plain, verb_of, is_label, file_of, before, files_of}
+use Rattle.script.specs.Text.{label_byte, command_on, given, two, free, add_label, add_have, add_command, verb_line, words_line, line_adds, with_label, with_have, with_command, Meaning, Start, nothing, then, from_line, reading, lines, words, plain, verb_of, is_label, file_of, before, files_of}
 
 -- files that are found
-mapped_suc : (o : Option ℕ) (n : ℕ) → option_map suc o ≡ Some n → (m : ℕ) × (n ≡ suc m) × (o ≡ Some m)
-mapped_suc None n e = let z : ◌≡◌ {A = ℕ} 0 1 = cc in absurd (omega arith)
-mapped_suc (Some m) n e = (m, cc, refl)
-
 file_low : (ls : List (List ℕ)) (w : List ℕ) (n : ℕ) → file_of ls w ≡ Some n → n < length ls
-file_low [] w n e = let z : ◌≡◌ {A = ℕ} 0 1 = cc in absurd (omega arith)
-file_low (l ∷ ls) w n e =
-    elim (cases_Bool (bytes_eq l w)) [
-      | inl t ↦ (let z : n ≡ 0 = cc (cond-true (bytes_eq l w) (Some 0) (option_map suc (file_of ls w)) t) in omega arith)
-      | inr f ↦
-          (let less = mapped_suc (file_of ls w) n (sym (cond-false (bytes_eq l w) (Some 0) (option_map suc (file_of ls w)) f) ∙ e) in
-          omega (arith, file_low ls w less.0 less.2, less.1))
-    ]
-
-mapped_none : (o : Option ℕ) → is_some (option_map suc o) ≡ false → is_some o ≡ false
-mapped_none None e = refl
-mapped_none (Some m) e = e
-
-taken_label : (l : List ℕ) (ls : List (List ℕ)) (w : List ℕ) → is_some (file_of (l ∷ ls) w) ≡ false → bytes_eq l w ≡ true → ⊥
-taken_label l ls w e t = both_ways _ e (ap is_some (cond-true (bytes_eq l w) (Some 0) (option_map suc (file_of ls w)) t))
+file_low ls w n e = (position-Some (λ l. bytes_eq l w) ls n [] (position_from-zero (λ l. bytes_eq l w) ls ∙ e)).0
 
 new_label : (ls : List (List ℕ)) (w : List ℕ) → is_some (file_of ls w) ≡ false → (k : ℕ) → k < length ls → get_or ls k [] ≡ w → ⊥
-new_label [] w e k h f = absurd (omega arith)
-new_label (l ∷ ls) w e zero h f = taken_label l ls w e ((bytes_eq-Decides l w).1 f)
-new_label (l ∷ ls) w e (suc k) h f =
-    elim (cases_Bool (bytes_eq l w)) [
-      | inl t ↦ taken_label l ls w e t
-      | inr g ↦
-          new_label ls w (mapped_none (file_of ls w) (ap is_some (sym (cond-false (bytes_eq l w) (Some 0) (option_map suc (file_of ls w)) g)) ∙ e)) k (omega arith) f
-    ]
+new_label ls w e k h f =
+    both_ways _ (none_passes (λ l. bytes_eq l w) ls [] (ap is_some (position_from-zero (λ l. bytes_eq l w) ls) ∙ e) k h) ((bytes_eq-Decides (get_or ls k []) w).1 f)
 
 before_some : (o : Option ℕ) (p : Option (List ℕ)) (fs : List ℕ) → before o p ≡ Some fs → (f : ℕ) × (gs : List ℕ) × (o ≡ Some f) × (p ≡ Some gs) × (f ∷ gs ≡ fs)
 before_some None p fs e = let z : ◌≡◌ {A = ℕ} 0 1 = cc in absurd (omega arith)
@@ -125,7 +103,7 @@ module _ (s : Meaning) (ok : Sound s) where
       let f = and_parts (eqb (length (get_or s.labels n [])) 0) (not (is_some (file_of s.labels w))) (and_parts (is_label w) (free s n w) t).1 in
       record {
         labels = length-set s.labels n w ∙ ok.labels;
-        short = short_set s.labels n w (leb-true (length w) 16 (and_parts (leb (length w) 16) (all label_byte w) (and_parts (is_label w) (free s n w) t).0).0) ok.short;
+        short = short_set s.labels n w (leb-true (length w) 16 (and_parts (leb (length w) 16) (list_all label_byte w) (and_parts (is_label w) (free s n w) t).0).0) ok.short;
         apart = label_apart n w (not-true (is_some (file_of s.labels w)) f.1);
         haves = ok.haves;
         commands = ok.commands;
@@ -180,7 +158,7 @@ module _ (s : Meaning) (ok : Sound s) where
       (λ f. tt)
 
   sound_line : (line : List ℕ) → Holds (line_adds s line)
-  sound_line line = cond_both (all plain line) (words_line s (words line)) (Err BadTextLine) Holds (λ t. sound_words (words line)) (λ f. tt)
+  sound_line line = cond_both (list_all plain line) (words_line s (words line)) (Err BadTextLine) Holds (λ t. sound_words (words line)) (λ f. tt)
     where
       sound_words : (ws : List (List ℕ)) → Holds (words_line s ws)
       sound_words [] = ok

@@ -1,9 +1,10 @@
 -- What the text of a script means: its text lines and words, what each text line adds or why it is refused, and so for the whole text.
-use Rattle.std.specs.Prelude.{ℕ, suc, ◌+◌, Bool, true, false, cond, not, ◌&&◌, ◌||◌, List, [], ◌∷◌, ◌++◌, length, replicate, is_some, Some, None, Ok, Err, codes, Option, Result, ◌==◌, nat_le, nat_lt, slice_index, slice_index_or, slice_set}
+use Rattle.std.specs.Prelude.{ℕ, ◌+◌, Bool, false, cond, not, ◌&&◌, ◌||◌, List, [], ◌∷◌, ◌++◌, length, replicate, is_some, Some, None, Ok, Err, codes, Option, Result, ◌==◌, nat_le, nat_lt, slice_index, slice_index_or, slice_set, find}
+use Rattle.std.specs.List.{list_all, position_from}
 use Rattle.std.specs.Option.{option_map}
 use Rattle.std.specs.Str.{bytes_eq}
 use Rattle.model.specs.Digits.{digit, file_number}
-use Rattle.model.specs.Numbers.{arity}
+use Rattle.model.specs.Numbers.{arity, kind_name}
 use Rattle.model.specs.declared.command.Command.{Command}
 use Rattle.model.specs.declared.command.Kind.{Kind}
 use Rattle.model.specs.declared.command.Kind.TheVariants.{Copy, Join, Gather, Choose, Tally, Check}
@@ -54,10 +55,6 @@ lines text = cut 10 text
 abbrev pub words : List ℕ → List (List ℕ)
 words line = filled (cut 32 line)
 
-abbrev pub all : (ℕ → Bool) → List ℕ → Bool
-all p [] = true
-all p (b ∷ bs) = p b && all p bs
-
 -- a byte of a word, or a space
 abbrev pub plain : ℕ → Bool
 plain b = nat_le 32 b && nat_le b 126
@@ -66,13 +63,7 @@ plain b = nat_le 32 b && nat_le b 126
 
 -- the command of a name
 abbrev pub kind_of : List ℕ → Option Kind
-kind_of w =
-    cond (bytes_eq w (codes "copy")) (Some Copy)
-    (cond (bytes_eq w (codes "join")) (Some Join)
-    (cond (bytes_eq w (codes "gather")) (Some Gather)
-    (cond (bytes_eq w (codes "choose")) (Some Choose)
-    (cond (bytes_eq w (codes "tally")) (Some Tally)
-    (cond (bytes_eq w (codes "check")) (Some Check) None)))))
+kind_of w = find (λ k. bytes_eq w (kind_name k)) (Copy ∷ Join ∷ Gather ∷ Choose ∷ Tally ∷ Check ∷ [])
 
 -- byte 35 is `#`
 abbrev pub comment : List ℕ → Bool
@@ -92,12 +83,11 @@ label_byte b = (nat_le 97 b && nat_le b 122) || digit b || b == 46 || b == 45
 
 -- at most 16 bytes; a word has one at least
 abbrev pub is_label : List ℕ → Bool
-is_label w = nat_le (length w) 16 && all label_byte w
+is_label w = nat_le (length w) 16 && list_all label_byte w
 
 -- the file that has a label; a file without one has [] in the list, which is no word
 abbrev pub file_of : List (List ℕ) → List ℕ → Option ℕ
-file_of [] w = None
-file_of (l ∷ ls) w = cond (bytes_eq l w) (Some 0) (option_map suc (file_of ls w))
+file_of ls w = position_from (λ l. bytes_eq l w) 0 ls
 
 -- the files of several labels, if all have one
 abbrev pub before : Option ℕ → Option (List ℕ) → Option (List ℕ)
@@ -172,7 +162,7 @@ words_line s [] = Ok s
 words_line s (w ∷ ws) = verb_line s (verb_of w) ws
 
 abbrev pub line_adds : Meaning → List ℕ → Result Meaning Refusal
-line_adds s line = cond (all plain line) (words_line s (words line)) (Err BadTextLine)
+line_adds s line = cond (list_all plain line) (words_line s (words line)) (Err BadTextLine)
 
 -- THE WHOLE TEXT
 

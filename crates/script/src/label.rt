@@ -3,39 +3,28 @@ ghost use Rattle.std.specs.Option.{option_map};
 ghost use Rattle.script.specs.Text.{label_byte, is_label, file_of, files_of};
 ghost use Rattle.script.specs.Views.{four};
 
-use crate::verb::same;
+/// The most bytes that a label may have.
+const LONGEST: usize = 16;
 
 fn is_label_byte(b: u8) -> bool
     ensures { result ≡ label_byte b }
 {
-    b >= b'a' && b <= b'z' || b >= b'0' && b <= b'9' || b == b'.' || b == b'-'
+    matches!(b, b'a'..=b'z' | b'0'..=b'9' | b'.' | b'-')
 }
 
 /// Whether a word may be a label.
 pub(crate) fn is_label(word: &[u8]) -> bool
     ensures { result ≡ is_label word.now }
 {
-    if word.len() > 16 {
-        return false;
-    }
-    for b in word {
-        if !is_label_byte(*b) {
-            return false;
-        }
-    }
-    true
+    word.len() <= LONGEST && word.iter().all(|b| is_label_byte(*b))
 }
 
 /// The file that has a label.
 pub(crate) fn file_of(labels: &[&[u8]; 64], label: &[u8]) -> Option<u8>
     ensures { result ≡ file_of (map (λ x. x.now) labels.now) label.now }
 {
-    for i in 0..64u8 {
-        if same(labels[i as usize], label) {
-            return Some(i);
-        }
-    }
-    None
+    let file = labels.iter().position(|held| *held == label)?;
+    Some(file as u8)
 }
 
 /// The files that have labels, filled up with 0.
@@ -45,10 +34,7 @@ pub(crate) fn files_of(labels: &[&[u8]; 64], args: &[&[u8]]) -> Option<[u8; 4]>
 {
     let mut files = [0; 4];
     for (i, arg) in args.iter().enumerate() {
-        let Some(file) = file_of(labels, arg) else {
-            return None;
-        };
-        files[i] = file;
+        files[i] = file_of(labels, arg)?;
     }
     Some(files)
 }

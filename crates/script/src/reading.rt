@@ -5,7 +5,6 @@ ghost use Rattle.script.specs.Views.{made};
 
 use crate::answer::Refused;
 use crate::tables::Tables;
-use crate::words::end_of;
 use model::Refusal;
 
 /// The most bytes that a text may have.
@@ -23,15 +22,11 @@ pub(crate) fn read<'t>(text: &'t [u8]) -> Result<Tables<'t>, Refused>
         });
     }
     let mut tables = Tables::new();
-    let mut line = 1;
-    let mut at = 0;
-    while at < text.len() {
-        let end = end_of(text, at, b'\n');
-        if let Err(refusal) = tables.add_line(&text[0..end], at) {
-            return Err(Refused { refusal, line });
-        }
-        at = end + 1;
-        line += 1;
+    for (i, part) in text.split(|b| *b == b'\n').enumerate() {
+        let line = i + 1;
+        tables
+            .add_line(part)
+            .map_err(|refusal| Refused { refusal, line })?;
     }
     Ok(tables)
 }

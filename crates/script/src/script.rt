@@ -5,8 +5,7 @@ use crate::tables::Tables;
 
 mod methods;
 
-/// A script: labels, starting contents and lines, with what each script keeps to. No `Result` may carry it together
-/// with these facts, so that a call fills it.
+/// A script: labels, starting contents and lines, with what each script keeps to.
 #[derive(Drop)]
 pub struct Script<'t> {
     tables: Tables<'t>,

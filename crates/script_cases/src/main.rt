@@ -2,9 +2,10 @@
 //! it gives, or the refusal's number and its text line.
 #![tactic(auto)]
 
+use arrayvec::ArrayVec;
 use script::Script;
-use std::io;
 use std::io::Write;
+use std::{io, iter};
 
 /// The scripts that are short enough to be written out.
 const CASES: [&[u8]; 50] = [
@@ -60,7 +61,7 @@ const CASES: [&[u8]; 50] = [
     b"file 00 a\n\n\n# x\nfold",
 ];
 
-/// A buffer longer than any script may be.
+/// More bytes than any script may have.
 const ROOM: usize = 17000;
 
 /// Prints a text on one line: byte 10 as a slash, what cannot be seen as a question mark.
@@ -82,32 +83,11 @@ fn print_outcome(rt: &HostRuntime, text: &[u8]) -> io::Result<()> {
     match script.read(text) {
         Ok(()) => {
             let lines = script.commands().len();
-            let mut haves = 0u8;
-            for i in 0..65 {
-                if script.have(i).is_some() {
-                    haves = haves.saturating_add(1);
-                }
-            }
+            let haves = (0..65).filter(|i| script.have(*i).is_some()).count();
             println!(rt; " -> lines {lines} haves {haves}")
         }
-        Err(refused) => {
-            let number = refused.refusal.number();
-            let line = refused.line;
-            println!(rt; " -> refused {number} line {line}")
-        }
+        Err(refused) => println!(rt; " -> refused {refused}"),
     }
-}
-
-/// Puts bytes at the end of what the buffer holds, as far as there is room, and says how much it holds then.
-fn append(buffer: &mut [u8], len: usize, bytes: &[u8]) -> usize {
-    let mut at = len;
-    for b in bytes {
-        if at < buffer.len() {
-            buffer[at] = *b;
-            at += 1;
-        }
-    }
-    at
 }
 
 /// Reads a text that says one thing over and over after its first text line.
@@ -118,16 +98,15 @@ fn print_repeated(
     again: &[u8],
     times: usize,
 ) -> io::Result<()> {
-    let mut buffer = [0u8; ROOM];
-    let mut len = append(&mut buffer, 0, first);
-    for _ in 0..times {
-        len = append(&mut buffer, len, again);
+    let mut text = ArrayVec::<u8, ROOM>::new();
+    for bytes in iter::once(first).chain(iter::repeat_n(again, times)) {
+        // Kept: what does not fit ends the text, and is no error.
+        if text.try_extend_from_slice(bytes).is_err() {
+            break;
+        }
     }
     print!(rt; "{name}")?;
-    if len <= ROOM {
-        print_outcome(rt, &buffer[0..len])?;
-    }
-    Ok(())
+    print_outcome(rt, &text)
 }
 
 fn main(rt: HostRuntime) -> io::Result<()> {

@@ -1,5 +1,5 @@
 -- Reading the records of a checked file once more, one after the other.
-use Rattle.std.proofs.Common.{◌≡◌, ℕ, zero, suc, ◌-◌, not, List, [], ◌∷◌, Some, None, Ok, Err, Option, Result, refl, ap, ◌∙◌, arith}
+use Rattle.std.proofs.Common.{◌≡◌, ℕ, zero, suc, not, List, [], ◌∷◌, Ok, Err, Result, ap, ◌∙◌, arith}
 use Rattle.model.specs.Records.{Record}
 use Rattle.model.specs.declared.command.Command.{Command}
 use Rattle.model.specs.declared.command.Kind.{Kind}
@@ -7,7 +7,7 @@ use Rattle.model.specs.declared.refusal.Refusal.{Refusal}
 use Rattle.trace.proofs.Backs.{went, held, same_value}
 use Rattle.trace.specs.Format.{Before, noted, raised, highest, a_file, a_kind, known_command, new_command, from_third, from_second, from_first, from_kind, a_command, record_command, a_record}
 use Rattle.trace.specs.Reads.{Read, Reading, read, then, many, begun, readable}
-use Rattle.trace.specs.Told.{again, first, others}
+use Rattle.trace.specs.Told.{again}
 
 -- what comes next may be weakened
 then_weaker : {X Y : Type 0} (r : Reading X) (f g : X → List ℕ → Result Y Refusal) (y : Y) → ((x : X) (bs : List ℕ) → f x bs ≡ Ok y → g x bs ≡ Ok y) → then r f ≡ Ok y → then r g ≡ Ok y
@@ -40,26 +40,3 @@ all_again n (suc m) s bs rs cs e =
     ap (λ r. begun r (λ x ds. readable (again n) raised m (raised s.high x) ds)) (record_again n s bs _ a.first)
     ∙ ap (λ xs. a.value ∷ xs) (all_again n m (noted s a.value) a.rest b.value b.rest b.first)
     ∙ same_value (a.value ∷ b.value) rs b.rest cs b.then
-
-module _ (n m h : ℕ) (bs : List ℕ) where
-  abbrev pub SomeNext : Record → ℕ → List ℕ → Type 0
-  SomeNext r t cs =
-      (◌≡◌ {A = Option Record} (Some r) (first (readable (again n) raised m h bs))) × (readable (again n) raised (m - 1) t cs ≡ others (readable (again n) raised m h bs))
-
-  abbrev pub NoNext : Type 0
-  NoNext = (◌≡◌ {A = Option Record} None (first (readable (again n) raised m h bs))) × (◌≡◌ {A = List Record} [] (others (readable (again n) raised m h bs)))
-
-pub next_some : (n m h : ℕ) (bs : List ℕ) (r : Record) (cs : List ℕ) (t : ℕ) → (m ≡ 0 → ⊥) → read r cs ≡ again n h bs → t ≡ raised h r → SomeNext n m h bs r t cs
-next_some n zero h bs r cs t ne e f = absurd (ne refl)
-next_some n (suc m) h bs r cs t ne e f =
-    let z : suc m - 1 ≡ m = omega arith in
-    let more : Reading Record → List Record = λ q. begun q (λ x ds. readable (again n) raised m (raised h x) ds) in (
-      ap (λ q. first (more q)) e,
-      ap (λ k. readable (again n) raised k t cs) z ∙ ap (λ k. readable (again n) raised m k cs) f ∙ ap (λ q. others (more q)) e,
-    )
-
-pub next_none : (n m h : ℕ) (bs : List ℕ) (e : Refusal) → (m ≡ 0 → ⊥) → Err e ≡ again n h bs → NoNext n m h bs
-next_none n zero h bs x ne e = absurd (ne refl)
-next_none n (suc m) h bs x ne e =
-    let more : Reading Record → List Record = λ q. begun q (λ y ds. readable (again n) raised m (raised h y) ds) in
-    (ap (λ q. first (more q)) e, ap (λ q. others (more q)) e)

@@ -1,13 +1,11 @@
 pub mod Accepted
 mod Agains
+mod Anys
 mod Backs
 mod Breaks
 pub mod Chains
 mod Entries
-mod Fields
-pub mod Folds
 pub mod Forths
 mod Highs
-mod Nths
 mod Pieces
 mod Whole

@@ -1,12 +1,8 @@
--- The loop that takes the contents, the content of an index, and bytes that are compared.
-use Rattle.std.proofs.Common.{◌≡◌, ℕ, suc, ◌+◌, ◌-◌, ◌<◌, ◌≤◌, false, leb, ◌⊎◌, List, [], ◌∷◌, ◌++◌, map, length, get_or, take, set, Some, None, Err, sym, ap, ◌∙◌, inl, inr, append-nil, arith, Bor}
-use Rattle.std.proofs.lemmas.List.{length-map, get_or-map, take_more_set, map_push}
-use Rattle.std.proofs.lemmas.Bool.{cond-true, cond-false, and_from, and_left, and_right, le-leb, lt-leb, cases_eq, cases_Bool}
-use Rattle.std.proofs.lemmas.Slice.Eq.{bytes_eq-Decides}
-use Rattle.std.specs.Str.{bytes_eq}
+-- The loop that takes the contents.
+use Rattle.std.proofs.Common.{◌≡◌, ℕ, suc, ◌+◌, ◌-◌, ◌<◌, ◌≤◌, List, [], ◌∷◌, ◌++◌, map, length, take, set, Err, sym, ap, ◌∙◌, append-nil, arith, Bor}
+use Rattle.std.proofs.lemmas.List.{take_more_set, map_push}
 use Rattle.trace.proofs.Chains.{onto, onto_none, onto_more, onto_stop}
 use Rattle.trace.specs.Reads.{Reading, read, then, many, a_count}
-use Rattle.trace.specs.Told.{content_at}
 use Rattle.trace.specs.Format.{a_content, push, all_contents, the_contents}
 use Rattle.model.specs.declared.refusal.Refusal.{Refusal}
 
@@ -58,22 +54,3 @@ rest_all answer n list i bs inv h l =
 
 pub section_begins : (n : ℕ) (bs cs : List ℕ) → read n cs ≡ a_count 1024 bs → all_contents n cs ≡ the_contents bs
 section_begins n bs cs e = ap (λ r. then r all_contents) e
-
-module _ (list : List Ref) (i : ℕ) where
-  pub content_some : (d : Ref) → (i ≡ 0 → ⊥) → i ≤ length list → Some (get_or list (i - 1) d).now ≡ content_at (map (λ x. x.now) list) i
-  content_some d ne h =
-      let l = length-map list (λ x. x.now) in
-      let low : 1 ≤ i = elim (cases_eq i 0) [ inl e ↦ absurd (ne e) | inr n ↦ omega arith ] in
-      ap Some (sym (get_or-map (λ x. x.now) list (i - 1) d [] (omega arith)))
-      ∙ sym (cond-true _ _ _ (and_from (leb 1 i) (leb i (length (map (λ x. x.now) list))) (le-leb _ _ low) (le-leb _ _ (omega arith))))
-
-  pub content_none : (i ≡ 0) ⊎ (length list < i) → None ≡ content_at (map (λ x. x.now) list) i
-  content_none (inl e) = sym (cond-false _ _ _ (and_left (leb 1 i) (leb i (length (map (λ x. x.now) list))) (lt-leb 1 i (omega arith))))
-  content_none (inr h) = let l = length-map list (λ x. x.now) in sym (cond-false _ _ _ (and_right (leb 1 i) (leb i (length (map (λ x. x.now) list))) (lt-leb i _ (omega arith))))
-
-pub other_length : (a b : List ℕ) → (length a ≡ length b → ⊥) → false ≡ bytes_eq a b
-other_length a b ne =
-    elim (cases_Bool (bytes_eq a b)) [
-      | inl t ↦ absurd (ne (ap length ((bytes_eq-Decides a b).0 t)))
-      | inr f ↦ sym f
-    ]

@@ -1,14 +1,14 @@
 -- The trace file: what a string of bytes says, and how a trace is written.
-use Rattle.std.specs.Prelude.{ℕ, ◌+◌, max, Bool, true, false, cond, not, ◌&&◌, ◌||◌, List, [], ◌∷◌, ◌++◌, length, Some, None, Ok, Err, Option, Result, ◌==◌, nat_le}
-use Rattle.std.specs.List.{flat_map}
+use Rattle.std.specs.Prelude.{ℕ, ◌+◌, max, Bool, true, false, cond, not, ◌&&◌, List, [], ◌∷◌, ◌++◌, length, Some, None, Ok, Err, Option, Result, ◌==◌, nat_le}
+use Rattle.std.specs.List.{flat_map, list_any}
 use Rattle.model.specs.Contents.{Content, mem}
 use Rattle.model.specs.Numbers.{kind_number, arity}
+pub use Rattle.model.specs.Numbers.{kind_of}
 use Rattle.model.specs.Records.{Record}
 use Rattle.model.specs.Book.{same_command}
 use Rattle.model.specs.Load.{Traced}
 use Rattle.model.specs.declared.command.Command.{Command}
 use Rattle.model.specs.declared.command.Kind.{Kind}
-use Rattle.model.specs.declared.command.Kind.TheVariants.{Copy, Join, Gather, Choose, Tally, Check}
 use Rattle.model.specs.declared.record.Standing.{Standing}
 use Rattle.model.specs.declared.record.Standing.TheVariants.{Hint, Own, Struck}
 use Rattle.model.specs.declared.record.Use.{Use}
@@ -38,12 +38,6 @@ the_contents bs = then (a_count 1024 bs) all_contents
 
 -- COMMANDS: five bytes, each a field; the state is the commands before
 
-abbrev pub kind_of : ℕ → Option Kind
-kind_of n =
-    cond (n == 1) (Some Copy)
-    (cond (n == 2) (Some Join)
-    (cond (n == 3) (Some Gather) (cond (n == 4) (Some Choose) (cond (n == 5) (Some Tally) (cond (n == 6) (Some Check) None)))))
-
 abbrev pub kind_told : Option Kind → List ℕ → Reading Kind
 kind_told (Some k) bs = read k bs
 kind_told None bs = Err TraceRule
@@ -62,8 +56,7 @@ abbrev pub a_file : ℕ → List ℕ → Reading ℕ
 a_file most bs = then (a_byte bs) (at_most most)
 
 abbrev pub known_command : Command → List Command → Bool
-known_command c [] = false
-known_command c (e ∷ es) = same_command c e || known_command c es
+known_command c es = list_any (same_command c) es
 
 abbrev pub new_command : List Command → Kind → ℕ → ℕ → ℕ → ℕ → List ℕ → Reading Command
 new_command es k a b c d bs =

@@ -1,5 +1,5 @@
 -- What the code's answers tell.
-use Rattle.std.specs.Prelude.{ℕ, ◌-◌, cond, ◌&&◌, List, [], ◌∷◌, map, length, take, Some, None, Ok, Err, Option, Result, ◌==◌, nat_le, slice_index_or}
+use Rattle.std.specs.Prelude.{ℕ, ◌-◌, cond, ◌&&◌, List, [], map, length, take, Some, None, Ok, Err, Option, Result, ◌==◌, nat_le, slice_index_or}
 use Rattle.model.specs.Contents.{Content}
 use Rattle.model.specs.Records.{Record, said}
 use Rattle.model.specs.Load.{Traced}
@@ -78,12 +78,3 @@ checked (Err e) = Err e
 -- the content of an index, which counts from 1
 abbrev pub content_at : List Content → ℕ → Option Content
 content_at cs i = cond (nat_le 1 i && nat_le i (length cs)) (Some (slice_index_or cs (i - 1) [])) None
-
--- the first of some values, and those after it
-abbrev pub first : {X : Type 0} → List X → Option X
-first [] = None
-first (x ∷ xs) = Some x
-
-abbrev pub others : {X : Type 0} → List X → List X
-others [] = []
-others (x ∷ xs) = xs

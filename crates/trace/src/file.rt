@@ -1,3 +1,5 @@
+ghost use Rattle.std.specs.Prelude.{◌≤◌};
+
 use crate::contents::Contents;
 
 mod methods;
@@ -10,4 +12,5 @@ pub struct Trace<'t> {
     contents: Contents<'t>,
     records: usize,
     rest: &'t [u8],
+    ghost few: { records ≤ 256 },
 }

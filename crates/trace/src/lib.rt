@@ -1,5 +1,5 @@
-//! Trace files: contents and records as bytes that shops keep and hand on. Checking such a file, reading it, and
-//! writing one.
+//! Trace files: contents and records as bytes that shops keep and hand on. Checking such a file, and
+//! reading it.
 #![tactic(auto)]
 
 mod contents;
@@ -13,7 +13,7 @@ mod records;
 mod uses;
 
 pub use file::{Trace, check};
-pub use kinds::{files_ok, kind_of};
+pub use kinds::files_ok;
 pub use laws::{only_lawful, read_back, written_back};
-pub use recorded::{has_command, reads_of};
+pub use recorded::has_command;
 pub use records::Records;

@@ -1,3 +1,5 @@
+ghost use Rattle.std.specs.Prelude.{◌≤◌};
+
 use model::Record;
 
 mod next;
@@ -17,4 +19,5 @@ pub struct Records<'t> {
     pub(crate) left: usize,
     pub(crate) contents: usize,
     pub(crate) high: u16,
+    ghost few: { left ≤ 256 },
 }

@@ -4,7 +4,7 @@
 
 use input::read_input;
 use lists::Lent;
-use model::{Command, Kind, Record, Refusal, Standing, Use};
+use model::{Record, Refusal};
 use pool::{Place, Pool};
 use std::io;
 use trace::check;
@@ -14,26 +14,6 @@ use trace_write::save;
 /// The most bytes that a file can have that is saved or loaded, and one more.
 const ROOM: usize = 82181;
 
-/// A record that stands in places of a book which are not used yet.
-fn blank() -> Record {
-    let none = Use { file: 0, number: 0 };
-    let command = Command {
-        kind: Kind::Copy,
-        a: 0,
-        b: 0,
-        c: 0,
-        d: 0,
-    };
-    let reads = [none; 16];
-    Record {
-        command,
-        reads,
-        count: 0,
-        write: none,
-        standing: Standing::Struck,
-    }
-}
-
 /// Takes a file into an empty pool and an empty book, and saves it.
 fn saved_again(bytes: &[u8], out: &mut [u8]) -> Result<usize, Refusal> {
     let trace = check(bytes)?;
@@ -41,7 +21,7 @@ fn saved_again(bytes: &[u8], out: &mut [u8]) -> Result<usize, Refusal> {
     let mut places = [Place::NOWHERE; 1024];
     let mut pool = Pool::new(&mut room, &mut places);
     put_contents(&mut pool, &trace)?;
-    let mut slots = [blank(); 256];
+    let mut slots = [Record::default(); 256];
     let mut book = Lent::new(&mut slots);
     take_hints(&mut book, &pool, &trace)?;
     save(out, &pool, book.as_slice())
@@ -62,9 +42,6 @@ fn main(rt: HostRuntime) -> io::Result<()> {
     let bytes = &buffer[0..len];
     match saved_again(bytes, &mut out) {
         Ok(n) => tell(&rt, bytes, &out, n),
-        Err(refusal) => {
-            let number = refusal.number();
-            println!(rt; "refused {number}")
-        }
+        Err(refusal) => println!(rt; "refused {refusal}"),
     }
 }

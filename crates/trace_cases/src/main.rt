@@ -45,6 +45,7 @@ fn variant<const N: usize>(mut file: [u8; N], len: usize, at: usize, byte: u8) -
 fn print_cuts(rt: &HostRuntime, file: &[u8]) -> io::Result<()> {
     print!(rt; "cut ")?;
     let mut out = rt.stdout();
+    // Kept: the number is how much of the file is left.
     for n in 0..file.len() {
         out.write_all(&[outcome(&file[0..n])])?;
     }
@@ -59,8 +60,8 @@ fn print_bytes<const N: usize>(
     at: usize,
 ) -> io::Result<()> {
     let mut out = rt.stdout();
-    for b in 0..256u16 {
-        out.write_all(&[variant(file, len, at, (b % 256) as u8)])?;
+    for byte in 0..=255 {
+        out.write_all(&[variant(file, len, at, byte)])?;
     }
     out.write_all(b"\n")
 }

@@ -1,7 +1,8 @@
 -- How many places the records of a lawful trace need: one for each command that the book does not have.
-use Rattle.std.proofs.Common.{◌≡◌, ℕ, ◌+◌, ◌-◌, ◌≤◌, Bool, true, false, cond, not, ◌&&◌, ◌||◌, eqb, leb, List, [], ◌∷◌, map, length, take, Ok, Err, sym, refl, ap, ◌∙◌, inl, inr, arith}
+use Rattle.std.proofs.Common.{◌≡◌, ℕ, zero, suc, ◌+◌, ◌-◌, ◌≤◌, Bool, true, false, cond, not, ◌&&◌, ◌||◌, eqb, leb, List, [], ◌∷◌, map, length, take, Ok, Err, sym, refl, ap, ◌∙◌, inl, inr, arith}
 use Rattle.std.proofs.lemmas.List.{length-map, length-take}
 use Rattle.std.proofs.lemmas.Bool.{cond-true, cond-false, and_parts, or_parts, or_from, not-true, eqb-true, le-leb, lt-leb, cases_lt}
+use Rattle.std.proofs.lemmas.List.Sums.{sum_by-cons}
 use Rattle.std.specs.List.{AllByRecursion}
 use Rattle.model.specs.Contents.{Content, Pool}
 use Rattle.model.specs.Numbers.{kind_number}
@@ -11,8 +12,10 @@ use Rattle.model.specs.Load.{Traced, hinted, hints}
 use Rattle.model.specs.declared.command.Command.{Command}
 use Rattle.model.specs.declared.record.Record as Code
 use Rattle.model.specs.declared.refusal.Refusal.TheVariants.{NoRoomToLoad}
-use Rattle.trace.specs.Format.{Before, start, noted, push, content_ok, files_ok, known_command, record_ok, lawful}
-use Rattle.trace.specs.Reads.{each, after}
+use Rattle.trace.specs.Format.{Before, start, noted, raised, push, content_ok, files_ok, known_command, record_ok, lawful}
+use Rattle.trace.specs.Told.{again, coming}
+use Rattle.trace.specs.declared.records.Records.{Records}
+use Rattle.trace.specs.Reads.{Reading, begun, readable, each, after}
 use Rattle.trace_load.specs.Takes.{fresh, hints_told, hints_after}
 
 -- the same as one of two commands that are the same
@@ -42,11 +45,11 @@ known_hint c q (r ∷ rs) e = by (same_command q.command r.command) refl (own r.
     by true f false more = ap (λ b. b || known c rs) (same_same c q.command r.command f)
     by false f b more = ap (λ k. same_command c r.command || k) more
 
-hint_length : (q : Record) (rs : List Record) → length (hint q rs) ≡ length rs + cond (known q.command rs) 0 1
+hint_length : (q : Record) (rs : List Record) → length (hint q rs) ≡ length rs + cond (not (known q.command rs)) 1 0
 hint_length q [] = refl
 hint_length q (r ∷ rs) = by (same_command q.command r.command) (own r.standing) (hint_length q rs)
   where
-    by : (a b : Bool) → length (hint q rs) ≡ length rs + cond (known q.command rs) 0 1 → length (cond a (cond b (r ∷ rs) (q ∷ rs)) (r ∷ hint q rs)) ≡ length (r ∷ rs) + cond (a || known q.command rs) 0 1
+    by : (a b : Bool) → length (hint q rs) ≡ length rs + cond (not (known q.command rs)) 1 0 → length (cond a (cond b (r ∷ rs) (q ∷ rs)) (r ∷ hint q rs)) ≡ length (r ∷ rs) + cond (not (a || known q.command rs)) 1 0
     by true true more = omega arith
     by true false more = omega arith
     by false b more = omega arith
@@ -54,10 +57,16 @@ hint_length q (r ∷ rs) = by (same_command q.command r.command) (own r.standing
 abbrev Other : Command → Record → Type 0
 Other c x = same_command x.command c ≡ false
 
+fresh_cons : (rs : List Record) (x : Record) (qs : List Record) → fresh rs (x ∷ qs) ≡ cond (not (known x.command rs)) 1 0 + fresh rs qs
+fresh_cons rs x qs = sum_by-cons (λ q. cond (not (known q.command rs)) 1 0) x qs
+
 fresh_hint : (q : Record) (rs qs : List Record) → AllByRecursion (Other q.command) qs → fresh (hint q rs) qs ≡ fresh rs qs
 fresh_hint q rs [] a = refl
 fresh_hint q rs (x ∷ qs) a =
-    ap (λ k. cond k 0 1 + fresh (hint q rs) qs) (known_hint x.command q rs a.0) ∙ ap (λ n. cond (known x.command rs) 0 1 + n) (fresh_hint q rs qs a.1)
+    fresh_cons (hint q rs) x qs
+    ∙ ap (λ k. cond (not k) 1 0 + fresh (hint q rs) qs) (known_hint x.command q rs a.0)
+    ∙ ap (λ n. cond (not (known x.command rs)) 1 0 + n) (fresh_hint q rs qs a.1)
+    ∙ sym (fresh_cons rs x qs)
 
 known_push : (c d : Command) (cs : List Command) → known_command c (push cs d) ≡ false → (known_command c cs ≡ false) × (same_command c d ≡ false)
 known_push c d [] e = (refl, (or_parts (same_command c d) false e).0)
@@ -86,6 +95,7 @@ module _ (n : ℕ) where
       let apart = others_than q.command (noted s q) qs (λ x k. (known_push x q.command s.commands k).1) a.1 in
       let same = fresh_hint h rs qs apart in
       let one = hint_length h rs in
+      let first = fresh_cons rs q qs in
       omega arith
 
 -- there are places for all
@@ -107,24 +117,34 @@ module _ (xs : List Content) (p : Pool) (t : Traced) (list : List Code.Record) (
   abbrev all : List Record
   all = hints xs p t.records (map said list)
 
-  pub tested : (slice : List Code.Record) (qs : List Record) (free n k : ℕ) (b : Bool) → slice ≡ list → qs ≡ t.records → free ≡ n - k → n ≡ places → k ≡ length list → b ≡ leb (fresh (map said slice) qs) free → b ≡ leb (length all) places
-  tested slice qs free n k b e f g u v w =
+  -- the places that are needed are those that are free, or more
+  pub test_is : (need free : ℕ) → need ≡ fresh (map said list) t.records → free ≡ places - length list → leb need free ≡ leb (length all) places
+  test_is need free e f =
       let l = length-map list said in
-      let z : free ≡ places - length (map said list) = omega arith in
-      w
-      ∙ ap (λ l. leb (fresh (map said l) qs) free) e
-      ∙ ap (λ l. leb (fresh (map said list) l) free) f
-      ∙ ap (leb (fresh (map said list) t.records)) z
+      ap (λ n. leb n free) e
+      ∙ ap (leb (fresh (map said list) t.records)) (f ∙ ap (λ n. places - n) (sym l))
       ∙ fits_is xs p t (map said list) places ok (omega arith)
 
-  pub refused_is : false ≡ leb (length all) places → (Err NoRoomToLoad ≡ hints_told all places) × (map said list ≡ hints_after all places (map said list))
-  refused_is e = (sym (cond-false (leb (length all) places) _ _ (sym e)), sym (cond-false (leb (length all) places) _ _ (sym e)))
+  pub refused_is : leb (length all) places ≡ false → (Err NoRoomToLoad ≡ hints_told all places) × (map said list ≡ hints_after all places (map said list))
+  refused_is e = (sym (cond-false (leb (length all) places) _ _ e), sym (cond-false (leb (length all) places) _ _ e))
 
-  pub taken_is : true ≡ leb (length all) places → (Ok tt ≡ hints_told all places) × (all ≡ hints_after all places (map said list))
-  taken_is e = (sym (cond-true (leb (length all) places) _ _ (sym e)), sym (cond-true (leb (length all) places) _ _ (sym e)))
+  pub taken_is : leb (length all) places ≡ true → (Ok tt ≡ hints_told all places) × (all ≡ hints_after all places (map said list))
+  taken_is e = (sym (cond-true (leb (length all) places) _ _ e), sym (cond-true (leb (length all) places) _ _ e))
 
   pub same_all : (ys : List Content) (qs : List Record) → ys ≡ xs → qs ≡ t.records → hints ys p qs (map said list) ≡ all
   same_all ys qs e f = ap (λ l. hints l p qs (map said list)) e ∙ ap (λ l. hints xs p l (map said list)) f
 
 pub held_within : {X : Type 0} (n : ℕ) (xs : List X) → length (take n xs) ≤ length xs
 held_within n xs = omega (arith, length-take n xs)
+
+-- no more records come than are left
+readable_few : {S X : Type 0} (p : S → List ℕ → Reading X) (next : S → X → S) (n : ℕ) (s : S) (bs : List ℕ) → length (readable p next n s bs) ≤ n
+readable_few p next zero s bs = omega arith
+readable_few p next (suc n) s bs = by (p s bs) (λ x cs. readable_few p next n (next s x) cs)
+  where
+    by : (r : Reading _) → ((x : _) (cs : List ℕ) → length (readable p next n (next s x) cs) ≤ n) → length (begun r (λ x cs. readable p next n (next s x) cs)) ≤ suc n
+    by (Ok r) h = let l = h r.value r.rest in omega arith
+    by (Err e) h = omega arith
+
+pub coming_few : (r : Records) → length (coming r) ≤ r.left
+coming_few r = readable_few (again r.contents) raised r.left r.high r.rest.now

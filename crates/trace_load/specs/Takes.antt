@@ -1,9 +1,8 @@
 -- Taking contents into a pool, and records into a book as hints: all or nothing.
-use Rattle.std.specs.Prelude.{ℕ, suc, ◌+◌, cond, List, [], ◌∷◌, map, length, Some, None, Ok, Err, Option, Result, nat_le}
+use Rattle.std.specs.Prelude.{ℕ, cond, not, List, map, length, Some, None, Ok, Err, Option, Result, nat_le}
+use Rattle.std.specs.List.{count_by}
 use Rattle.model.specs.Contents.{Pool}
 use Rattle.model.specs.Records.{Record}
-use Rattle.model.specs.Book.{same_command}
-use Rattle.model.specs.declared.command.Command.{Command}
 use Rattle.model.specs.declared.refusal.Refusal.{Refusal}
 use Rattle.model.specs.declared.refusal.Refusal.TheVariants.{NoRoomToLoad}
 use Rattle.trace.specs.Format.{known_command}
@@ -24,12 +23,6 @@ hints_told rs places = cond (nat_le (length rs) places) (Ok tt) (Err NoRoomToLoa
 abbrev pub hints_after : List Record → ℕ → List Record → List Record
 hints_after rs places old = cond (nat_le (length rs) places) rs old
 
--- the place of the record of a command; the count of records where there is none
-abbrev pub spot : Command → List Record → ℕ
-spot c [] = 0
-spot c (r ∷ rs) = cond (same_command c r.command) 0 (suc (spot c rs))
-
 -- how many records have a command that a book does not have
 abbrev pub fresh : List Record → List Record → ℕ
-fresh rs [] = 0
-fresh rs (q ∷ qs) = cond (known_command q.command (map (λ r. r.command) rs)) 0 1 + fresh rs qs
+fresh rs qs = count_by (λ q. not (known_command q.command (map (λ r. r.command) rs))) qs

@@ -1,38 +1,31 @@
-ghost use Rattle.std.specs.Prelude.{◌≡◌, ◌-◌, ◌≤◌, true, [], map, length, take, if◌then◌else◌, nat_le, slice_index_or};
+ghost use Rattle.std.specs.Prelude.{◌≡◌, ◌-◌, ◌≤◌, true, [], map, length, take, slice_index_or};
 ghost use Rattle.lists.specs.Held.{held, room};
 ghost use Rattle.model.specs.Records.{said};
-ghost use Rattle.model.specs.Book.{own, hint as hint_in};
+ghost use Rattle.model.specs.Book.{hint as hint_in};
 ghost use Rattle.model.specs.Load.{numbered, hinted, hints as hints_in};
 ghost use Rattle.pool.specs.Contents.{meant};
-ghost use Rattle.trace.specs.Format.{lawful, known_command};
+ghost use Rattle.trace.specs.Format.{lawful};
 ghost use Rattle.trace.specs.Told.{meant as traced, coming};
-ghost use Rattle.trace_load.specs.Takes.{spot, fresh, hints_told, hints_after};
+ghost use Rattle.trace_load.specs.Takes.{fresh, hints_told, hints_after};
+
+// Kept throughout: contents and pool stay two parameters; a struct of the two references would be made for three private
+// functions, and their clauses would say the same of its fields.
 
 use lists::Lent;
-use model::{Command, Record, Refusal, Standing, Use, same_command};
+use model::{Record, Refusal, Standing, Use, place_of};
 use pool::Pool;
-use trace::{Records, Trace, has_command, reads_of};
-
-/// A content of a file, none past the last.
-fn content_at<'t>(contents: &[&'t [u8]], at: usize) -> &'t [u8]
-    ensures { result.now ≡ slice_index_or (map (λ x. x.now) contents.now) at [] }
-{
-    if at < contents.len() {
-        contents[at]
-    } else {
-        &[]
-    }
-}
+use trace::{Records, Trace, has_command};
 
 /// A use of a file, with the number that its content has in the pool.
 fn renumbered(contents: &[&[u8]], pool: &Pool, u: Use) -> Use
     ensures { result ≡ numbered (map (λ x. x.now) contents.now) (meant pool.now) u }
 {
-    let at = (u.number as usize).saturating_sub(1);
-    let found = pool.find(content_at(contents, at));
+    let at = usize::from(u.number).saturating_sub(1);
+    let content = contents.get(at).copied().unwrap_or(&[]);
+    let found = pool.find(content);
     Use {
-        file: u.file,
-        number: found.number,
+        number: found.map_or(0, |found| found.number),
+        ..u
     }
 }
 
@@ -41,9 +34,10 @@ fn renumbered_reads(contents: &[&[u8]], pool: &Pool, reads: &[Use]) -> [Use; 16]
     requires { length reads.now ≤ 16 }
     ensures { take (length reads.now) result ≡ map (numbered (map (λ x. x.now) contents.now) (meant pool.now)) reads.now }
 {
-    let mut list = [Use { file: 0, number: 0 }; 16];
-    for i in 0..reads.len() {
-        list[i] = renumbered(contents, pool, reads[i]);
+    let mut list = [Use::default(); 16];
+    // Kept: the place is written by its number; after a `zip` with `iter_mut` a proof knows nothing of what was written.
+    for (i, u) in reads.iter().enumerate() {
+        list[i] = renumbered(contents, pool, *u);
     }
     list
 }
@@ -52,7 +46,7 @@ fn renumbered_reads(contents: &[&[u8]], pool: &Pool, reads: &[Use]) -> [Use; 16]
 fn as_hint(contents: &[&[u8]], pool: &Pool, rec: &Record) -> Record
     ensures { said result ≡ hinted (map (λ x. x.now) contents.now) (meant pool.now) (said rec.now) }
 {
-    let reads = reads_of(rec);
+    let reads = rec.reads();
     let count = reads.len() as u8;
     let list = renumbered_reads(contents, pool, reads);
     let write = renumbered(contents, pool, rec.write);
@@ -65,90 +59,40 @@ fn as_hint(contents: &[&[u8]], pool: &Pool, rec: &Record) -> Record
     }
 }
 
-fn is_own(standing: Standing) -> bool
-    ensures { result ≡ own standing }
-{
-    match standing {
-        Standing::Own => true,
-        Standing::Hint | Standing::Struck => false,
-    }
-}
-
-/// The place of the record of a command; the count of records where there is none.
-fn place_of(list: &[Record], command: Command) -> usize
-    ensures { result ≡ spot command (map said list.now) }
-{
-    for i in 0..list.len() {
-        if same_command(command, list[i].command) {
-            return i;
-        }
-    }
-    list.len()
-}
-
 /// Takes one hint into a book that has a place for it.
 fn take_hint(book: &mut Lent<Record>, rec: Record)
     requires { length (hint_in (said rec) (map said (held book.old))) ≤ room book.old }
     ensures held { map said (held book.new) ≡ hint_in (said rec) (map said (held book.old)) }
     ensures room { room book.new ≡ room book.old }
 {
-    let at = place_of(book.as_slice(), rec.command);
-    let Some(old) = book.get(at) else {
+    let records = book.as_slice();
+    let Some(at) = place_of(records, rec.command) else {
         book.push(rec);
         return;
     };
-    if is_own(old.standing) {
-        return;
+    if records[at].standing != Standing::Own {
+        book.replace(at, rec);
     }
-    book.replace(at, rec);
 }
 
 /// Takes records as hints into a book that has the places for them.
-fn take_all(book: &mut Lent<Record>, pool: &Pool, contents: &[&[u8]], mut records: Records)
+fn take_all(book: &mut Lent<Record>, pool: &Pool, contents: &[&[u8]], records: Records)
     requires { length (hints_in (map (λ x. x.now) contents.now) (meant pool.now) (coming records) (map said (held book.old))) ≤ room book.old }
     ensures held { map said (held book.new) ≡ hints_in (map (λ x. x.now) contents.now) (meant pool.now) (coming records.entry) (map said (held book.old)) }
     ensures room { room book.new ≡ room book.old }
 {
-    while let Some(rec) = records.next() {
+    for rec in records {
         take_hint(book, as_hint(contents, pool, &rec));
     }
 }
 
-/// How many places a record of a command needs: none where one of its command is there.
-fn places_for(list: &[Record], command: Command) -> usize
-    ensures { result ≡ (if known_command command (map (λ s. s.command) (map said list.now)) then 0 else 1) }
+/// How many places records need that are to come: one for each whose command is not in the list.
+fn places_for(list: &[Record], records: Records) -> usize
+    ensures { result ≡ fresh (map said list.now) (coming records.entry) }
 {
-    if has_command(list, command) { 0 } else { 1 }
-}
-
-/// The records that are to come need no more than so many places.
-fn has_places(list: &[Record], places: usize, mut records: Records) -> bool
-    ensures { result ≡ nat_le (fresh (map said list.now) (coming records.entry)) places }
-{
-    let mut free = places;
-    while let Some(rec) = records.next() {
-        let need = places_for(list, rec.command);
-        if need > free {
-            return false;
-        }
-        free -= need;
-    }
-    true
-}
-
-/// Takes the records of a lawful trace, if there are places for them.
-fn take_lawful(book: &mut Lent<Record>, pool: &Pool, trace: &Trace) -> Result<(), Refusal>
-    requires { lawful (traced trace.now) ≡ true }
-    ensures value { result ≡ hints_told (hints_in (traced trace.now).contents (meant pool.now) (traced trace.now).records (map said (held book.old))) (room book.old) }
-    ensures held { map said (held book.new) ≡ hints_after (hints_in (traced trace.now).contents (meant pool.now) (traced trace.now).records (map said (held book.old))) (room book.old) (map said (held book.old)) }
-    ensures room { room book.new ≡ room book.old }
-{
-    let free = book.room().saturating_sub(book.len());
-    if !has_places(book.as_slice(), free, trace.records()) {
-        return Err(Refusal::NoRoomToLoad);
-    }
-    take_all(book, pool, trace.contents(), trace.records());
-    Ok(())
+    records
+        .filter(|rec| !has_command(list, rec.command))
+        .count()
 }
 
 /// Takes the records of a checked file into a book as hints, with the numbers that their contents have in the pool.
@@ -160,5 +104,10 @@ pub fn take_hints(book: &mut Lent<Record>, pool: &Pool, trace: &Trace) -> Result
     ensures held { map said (held book.new) ≡ hints_after (hints_in (traced trace.now).contents (meant pool.now) (traced trace.now).records (map said (held book.old))) (room book.old) (map said (held book.old)) }
     ensures room { room book.new ≡ room book.old }
 {
-    take_lawful(book, pool, trace)
+    let free = book.room().saturating_sub(book.len());
+    if places_for(book.as_slice(), trace.records()) > free {
+        return Err(Refusal::NoRoomToLoad);
+    }
+    take_all(book, pool, trace.contents(), trace.records());
+    Ok(())
 }

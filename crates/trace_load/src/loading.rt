@@ -13,21 +13,6 @@ use model::{Record, Refusal};
 use pool::Pool;
 use trace::check;
 
-/// Checks the bytes, puts the contents and takes the records; where one of these is refused, all is as it was.
-fn load_bytes(bytes: &[u8], pool: &mut Pool, book: &mut Lent<Record>) -> Result<(), Refusal>
-    ensures loaded { (w : World) → w.book_places ≡ room book.old → Loaded (decoded bytes.now) result (stocked w w.files (meant pool.old) (map said (held book.old))) (stocked w w.files (meant pool.new) (map said (held book.new))) }
-    ensures room { room book.new ≡ room book.old }
-{
-    let trace = check(bytes)?;
-    let count = pool.count();
-    put_contents(pool, &trace)?;
-    if let Err(refusal) = take_hints(book, pool, &trace) {
-        pool.cut(count);
-        return Err(refusal);
-    }
-    Ok(())
-}
-
 /// Takes a trace file into a pool and a book: its contents are put, and its records become hints. A hint is appended,
 /// or takes the place of a record of its command that is not own; an own record stays. All is tested before anything
 /// changes for good: a refused file leaves pool and book as they were.
@@ -35,5 +20,13 @@ pub fn load_file(bytes: &[u8], pool: &mut Pool, book: &mut Lent<Record>) -> Resu
     ensures loaded { (w : World) → w.book_places ≡ room book.old → Loaded (decoded bytes.now) result (stocked w w.files (meant pool.old) (map said (held book.old))) (stocked w w.files (meant pool.new) (map said (held book.new))) }
     ensures room { room book.new ≡ room book.old }
 {
-    load_bytes(bytes, pool, book)
+    let trace = check(bytes)?;
+    let count = pool.count();
+    put_contents(pool, &trace)?;
+    // Kept: no `?`, since the pool is cut back before the refusal is told.
+    if let Err(refusal) = take_hints(book, pool, &trace) {
+        pool.cut(count);
+        return Err(refusal);
+    }
+    Ok(())
 }

@@ -4,67 +4,52 @@
 //! reads standard input.
 #![tactic(auto)]
 
-use model::{Command, Kind, Record};
+use model::{Command, Record, Use};
 use std::io::Read;
 use std::{env, fs, io};
-use trace::{Records, Trace, check, reads_of};
-
-/// The word by which scripts name a kind.
-fn word(kind: Kind) -> &'static str {
-    match kind {
-        Kind::Copy => "copy",
-        Kind::Join => "join",
-        Kind::Gather => "gather",
-        Kind::Choose => "choose",
-        Kind::Tally => "tally",
-        Kind::Check => "check",
-    }
-}
+use trace::{Records, Trace, check};
 
 fn show_command(rt: &HostRuntime, command: Command) -> io::Result<()> {
-    let name = word(command.kind);
-    let arity = command.kind.arity();
-    let a = command.a;
-    let b = command.b;
-    print!(rt; "{name} {a:02} {b:02}")?;
-    if arity >= 3 {
-        let c = command.c;
+    let Command { kind, a, b, c, d } = command;
+    print!(rt; "{kind} {a:02} {b:02}")?;
+    if kind.arity() >= 3 {
         print!(rt; " {c:02}")?;
     }
-    if arity >= 4 {
-        let d = command.d;
+    if kind.arity() >= 4 {
         print!(rt; " {d:02}")?;
     }
     Ok(())
+}
+
+fn show_use(rt: &HostRuntime, word: &str, used: Use) -> io::Result<()> {
+    let Use { file, number } = used;
+    print!(rt; "{word}{file:02}:{number}")
 }
 
 fn show_record(rt: &HostRuntime, record: &Record) -> io::Result<()> {
     print!(rt; "record ")?;
     show_command(rt, record.command)?;
     print!(rt; " reads")?;
-    for u in reads_of(record) {
-        let file = u.file;
-        let index = u.number;
-        print!(rt; " {file:02}:{index}")?;
+    for read in record.reads() {
+        show_use(rt, " ", *read)?;
     }
-    let file = record.write.file;
-    let index = record.write.number;
-    println!(rt; " writes {file:02}:{index}")
+    show_use(rt, " writes ", record.write)?;
+    println!(rt;)
 }
 
 fn show_contents(rt: &HostRuntime, contents: &[&[u8]]) -> io::Result<()> {
     let count = contents.len();
     println!(rt; "contents {count}")?;
-    for i in 0..count {
-        let index = i as u64 + 1;
-        let length = contents[i].len();
+    for (i, content) in contents.iter().enumerate() {
+        let index = i + 1;
+        let length = content.len();
         println!(rt; "content {index} length {length}")?;
     }
     Ok(())
 }
 
-fn show_records(rt: &HostRuntime, mut records: Records) -> io::Result<()> {
-    while let Some(record) = records.next() {
+fn show_records(rt: &HostRuntime, records: Records) -> io::Result<()> {
+    for record in records {
         show_record(rt, &record)?;
     }
     Ok(())
@@ -79,10 +64,7 @@ fn show(rt: &HostRuntime, trace: &Trace) -> io::Result<()> {
 fn tell(rt: &HostRuntime, bytes: &[u8]) -> io::Result<()> {
     match check(bytes) {
         Ok(trace) => show(rt, &trace),
-        Err(refusal) => {
-            let number = refusal.number();
-            println!(rt; "refused {number}")
-        }
+        Err(refusal) => println!(rt; "refused {refusal}"),
     }
 }
 
@@ -102,10 +84,12 @@ fn tell_named(rt: &HostRuntime, name: &str) -> io::Result<()> {
 }
 
 fn main(rt: HostRuntime) -> io::Result<()> {
-    let mut named = false;
-    for name in env::args(&rt)?.skip(1) {
-        named = true;
+    let mut names = env::args(&rt)?.skip(1).peekable();
+    if names.peek().is_none() {
+        return tell_input(&rt);
+    }
+    for name in names {
         tell_named(&rt, name.as_str())?;
     }
-    if named { Ok(()) } else { tell_input(&rt) }
+    Ok(())
 }

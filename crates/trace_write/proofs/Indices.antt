@@ -2,7 +2,7 @@
 use Rattle.std.proofs.Common.{◌≡◌, ℕ, suc, ◌+◌, ◌<◌, ◌≤◌, max, Bool, true, false, cond, not, ◌&&◌, leb, List, [], ◌∷◌, ◌++◌, map, length, sym, refl, ap, ◌∙◌, inl, inr, append_assoc, append-nil, arith}
 use Rattle.std.proofs.lemmas.List.{length-append, length_push, length-map}
 use Rattle.std.proofs.lemmas.Bool.{and_parts, and_from, le-leb, leb-true, leb-false, cases_eq, cases_Bool, cond-true, cond-false}
-use Rattle.std.specs.List.{flat_map}
+use Rattle.std.specs.List.{flat_map, list_all}
 use Rattle.model.specs.Contents.{Pool, holds}
 use Rattle.model.specs.Records.{Record}
 use Rattle.model.specs.declared.command.Command.{Command}
@@ -13,7 +13,7 @@ use Rattle.trace.specs.Told.{met}
 use Rattle.trace_write.proofs.Lists.{place_same, place_other, place_low}
 use Rattle.trace_write.proofs.Orders.{after_append}
 use Rattle.trace_write.proofs.Selects.{with_command, chosen_ok, savable_parts}
-use Rattle.trace_write.specs.Saves.{every, use_savable, savable, place, listed, numbers_in, indexed_use, indexed}
+use Rattle.trace_write.specs.Saves.{use_savable, savable, place, listed, numbers_in, indexed_use, indexed}
 
 -- listing only adds at the end
 pub record Longer (ns o : List ℕ) : Type 0 where
@@ -87,10 +87,10 @@ module _ (ns : List ℕ) where
     use_index : (u : Use) (o ms : List ℕ) → use_savable p u ≡ true → ns ≡ after listed (listed o u.number) ms → use_ok (length ns) (length o) (indexed_use ns u) ≡ true
     use_index u o ms s e = and_from (leb u.file 63) _ (and_parts (leb u.file 63) (holds p u.number) s).0 (one_index o u.number ms e).ok
 
-    pub uses_indices : (us : List Use) (o ms : List ℕ) → every (use_savable p) us ≡ true → ns ≡ after listed o (map (λ u. u.number) us ++ ms) → (each (use_ok (length ns)) higher (length o) (map (indexed_use ns) us) ≡ true) × (after higher (length o) (map (indexed_use ns) us) ≡ length (after listed o (map (λ u. u.number) us)))
+    pub uses_indices : (us : List Use) (o ms : List ℕ) → list_all (use_savable p) us ≡ true → ns ≡ after listed o (map (λ u. u.number) us ++ ms) → (each (use_ok (length ns)) higher (length o) (map (indexed_use ns) us) ≡ true) × (after higher (length o) (map (indexed_use ns) us) ≡ length (after listed o (map (λ u. u.number) us)))
     uses_indices [] o ms s e = (refl, refl)
     uses_indices (u ∷ us) o ms s e =
-        let t = and_parts (use_savable p u) (every (use_savable p) us) s in
+        let t = and_parts (use_savable p u) (list_all (use_savable p) us) s in
         let rest = map (λ v. v.number) us ++ ms in
         let i = one_index o u.number rest e in
         let more = uses_indices us (listed o u.number) ms t.1 e in (

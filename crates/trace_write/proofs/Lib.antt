@@ -1,5 +1,4 @@
 mod Brings
-mod Chosens
 mod Indices
 pub mod Lawfuls
 mod Lists
@@ -10,4 +9,3 @@ mod Selects
 mod Sizes
 mod Tables
 pub mod Trips
-mod Writes

@@ -1,9 +1,9 @@
 -- Places of numbers in a list, numbers that are listed once, and how many there can be.
-use Rattle.std.proofs.Common.{◌≡◌, ℕ, zero, suc, ◌+◌, ◌<◌, ◌≤◌, cond, eqb, leb, List, [], ◌∷◌, ◌++◌, length, get_or, drop, sym, refl, subst, inl, inr, arith}
+use Rattle.std.proofs.Common.{◌≡◌, ℕ, zero, suc, ◌+◌, ◌<◌, ◌≤◌, Bool, true, false, cond, eqb, leb, List, [], ◌∷◌, ◌++◌, length, Some, None, sym, refl, subst, inl, inr, arith}
 use Rattle.std.proofs.ByRecursion.{All-push}
-use Rattle.std.proofs.lemmas.List.{at_drop_more, at_drop_all}
 use Rattle.std.proofs.lemmas.Bool.{cond-true, cond-false, eq-eqb, ne_eqb, le-leb, lt-leb, cases_eq, cases_lt}
-use Rattle.std.specs.List.{AllByRecursion}
+use Rattle.std.proofs.lemmas.Option.{none-some}
+use Rattle.std.specs.List.{AllByRecursion, position_from}
 use Rattle.trace_write.specs.Rooms.{Apart}
 use Rattle.trace_write.specs.Saves.{place}
 
@@ -19,25 +19,22 @@ pub place_low : (n : ℕ) (ms : List ℕ) → 1 ≤ place n ms
 place_low n [] = omega arith
 place_low n (m ∷ ms) = elim (cases_eq n m) [ inl e ↦ omega (arith, place_same n m ms e) | inr ne ↦ omega (arith, place_other n m ms ne) ]
 
-pub place_high : (n : ℕ) (ms : List ℕ) → place n ms ≤ length ms + 1
-place_high n [] = omega arith
-place_high n (m ∷ ms) =
-    elim (cases_eq n m) [ inl e ↦ omega (arith, place_same n m ms e) | inr ne ↦ omega (arith, place_other n m ms ne, place_high n ms) ]
+-- as a search tells it
+pub place_found : (n k i : ℕ) (ms : List ℕ) → position_from (λ m. eqb n m) k ms ≡ Some i → i + 1 ≡ k + place n ms
+place_found n k i [] e = absurd (none-some i e)
+place_found n k i (m ∷ ms) e = by (eqb n m) e (place_found n (k + 1) i ms)
+  where
+    by : (b : Bool) → cond b (Some k) (position_from (λ j. eqb n j) (k + 1) ms) ≡ Some i → (position_from (λ j. eqb n j) (k + 1) ms ≡ Some i → i + 1 ≡ k + 1 + place n ms) → i + 1 ≡ k + cond b 1 (suc (place n ms))
+    by true f more = let z : k ≡ i = cc in omega arith
+    by false f more = let z = more f in omega arith
 
--- a loop that looks for the place
-module _ (n : ℕ) (xs : List ℕ) (i : ℕ) (inv : i + place n (drop i xs) ≡ place n xs) where
-  module _ (lt : i < length xs) where
-    here : place n (drop i xs) ≡ place n (get_or xs i 0 ∷ drop (i + 1) xs)
-    here = at_drop_more (place n) xs i 0 lt
-
-    pub place_here : get_or xs i 0 ≡ n → i + 1 ≡ place n xs
-    place_here e = let a = here in let b = place_same n (get_or xs i 0) (drop (i + 1) xs) (sym e) in omega arith
-
-    pub place_later : (get_or xs i 0 ≡ n → ⊥) → i + 1 + place n (drop (i + 1) xs) ≡ place n xs
-    place_later ne = let a = here in let b = place_other n (get_or xs i 0) (drop (i + 1) xs) (λ e. ne (sym e)) in omega arith
-
-  pub place_past : length xs ≤ i → i ≤ length xs → length xs + 1 ≡ place n xs
-  place_past h l = let a = at_drop_all (place n) xs i h in omega arith
+pub place_nowhere : (n k : ℕ) (ms : List ℕ) → position_from (λ m. eqb n m) k ms ≡ None → length ms + 1 ≡ place n ms
+place_nowhere n k [] e = omega arith
+place_nowhere n k (m ∷ ms) e = by (eqb n m) e (place_nowhere n (k + 1) ms)
+  where
+    by : (b : Bool) → cond b (Some k) (position_from (λ j. eqb n j) (k + 1) ms) ≡ None → (position_from (λ j. eqb n j) (k + 1) ms ≡ None → length ms + 1 ≡ place n ms) → suc (length ms) + 1 ≡ cond b 1 (suc (place n ms))
+    by true f more = absurd (none-some k (sym f))
+    by false f more = let z = more f in omega arith
 
 -- a number that is past the last place is not there
 pub not_there : (n : ℕ) (ms : List ℕ) → length ms < place n ms → AllByRecursion (λ m. m ≡ n → ⊥) ms

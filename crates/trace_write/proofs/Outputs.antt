@@ -1,16 +1,15 @@
--- The file as four writes: how long it is, and that they give it.
-use Rattle.std.proofs.Common.{◌≡◌, ℕ, ◌+◌, ◌≤◌, List, ◌++◌, map, length, sym, ap, ◌∙◌, arith}
+-- The file as four parts, and how long it is.
+use Rattle.std.proofs.Common.{◌≡◌, ℕ, ◌+◌, ◌*◌, List, ◌++◌, map, length, sym, ap, ◌∙◌, arith}
 use Rattle.std.proofs.lemmas.List.{length-append, length-map}
-use Rattle.std.specs.List.{flat_map}
+use Rattle.std.specs.List.{flat_map, sum_by}
 use Rattle.model.specs.Contents.{Pool, content}
 use Rattle.model.specs.Records.{said}
 use Rattle.model.specs.Load.{Traced}
 use Rattle.model.specs.declared.record.Record as Code
 use Rattle.trace.specs.Format.{content_bytes, record_bytes, encoded}
 use Rattle.trace.specs.Reads.{two_bytes}
-use Rattle.trace_write.proofs.Sizes.{joined_map}
-use Rattle.trace_write.proofs.Writes.{two_writes}
-use Rattle.trace_write.specs.Puts.{put, content_of, record_of}
+use Rattle.trace_write.proofs.Sizes.{joined_map, content_size, record_size, pieces_size}
+use Rattle.trace_write.specs.Puts.{content_of, record_of}
 use Rattle.trace_write.specs.Saves.{indexed, traced}
 
 module _ (p : Pool) (ns : List ℕ) (rs : List Code.Record) where
@@ -23,7 +22,7 @@ module _ (p : Pool) (ns : List ℕ) (rs : List Code.Record) where
   abbrev trace : Traced
   trace = traced p ns (map said rs)
 
-  encoded_is : whole ≡ encoded trace
+  pub encoded_is : whole ≡ encoded trace
   encoded_is =
       let cs = map (content p) ns in
       let ss = map said rs in
@@ -44,14 +43,9 @@ module _ (p : Pool) (ns : List ℕ) (rs : List Code.Record) where
   pub encoded_size : length (encoded trace) ≡ 4 + length (flat_map (content_of p) ns) + length (flat_map (record_of ns) rs)
   encoded_size = ap length (sym encoded_is) ∙ size
 
-  module _ (bs : List ℕ) where
-    -- the four writes
-    pub four_writes : (a b c : ℕ) (b1 b2 b3 b4 : List ℕ) → 4 + length (flat_map (content_of p) ns) + length (flat_map (record_of ns) rs) ≤ length bs → b1 ≡ put 0 (two_bytes (length ns)) bs → a ≡ 2 → b2 ≡ put a (flat_map (content_of p) ns) b1 → b ≡ a + length (flat_map (content_of p) ns) → b3 ≡ put b (two_bytes (length rs)) b2 → c ≡ b + 2 → b4 ≡ put c (flat_map (record_of ns) rs) b3 → b4 ≡ put 0 (encoded trace) bs
-    four_writes a b c b1 b2 b3 b4 h e1 f1 e2 f2 e3 f3 e4 =
-        let s = size in
-        let l = length-append (two_bytes (length ns)) (flat_map (content_of p) ns) in
-        let m = length-append contents_part (two_bytes (length rs)) in
-        let one = two_writes 0 a (two_bytes (length ns)) (flat_map (content_of p) ns) bs b1 b2 (omega arith) e1 (omega arith) e2 in
-        let two = two_writes 0 b contents_part (two_bytes (length rs)) bs b2 b3 (omega arith) one (omega arith) e3 in
-        two_writes 0 c (contents_part ++ two_bytes (length rs)) (flat_map (record_of ns) rs) bs b3 b4 (omega arith) two (omega arith) e4
-        ∙ ap (λ l. put 0 l bs) encoded_is
+  pub encoded_sum : length (encoded trace) ≡ 4 + sum_by (λ n. 2 + length (content p n)) ns + sum_by (λ r. 9 + 3 * length (said r).reads) rs
+  encoded_sum =
+      let a = encoded_size in
+      let b = pieces_size (content_of p) (λ n. 2 + length (content p n)) (content_size p) ns in
+      let c = pieces_size (record_of ns) (λ r. 9 + 3 * length (said r).reads) (record_size ns) rs in
+      omega arith

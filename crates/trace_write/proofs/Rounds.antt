@@ -4,7 +4,7 @@ use Rattle.std.proofs.lemmas.Slice.Eq.{bytes_eq-Decides}
 use Rattle.std.proofs.ByRecursion.{All-push, All-weaker}
 use Rattle.std.proofs.lemmas.List.{length_push, map_push, take_more, take_all}
 use Rattle.std.proofs.lemmas.Bool.{cond-true, cond-false, and_parts, and_from, or_parts, not-true, not_from_false, le-leb, lt-leb, leb-true, lt-ltb, eqb-true, eqb-false, cases_eq, cases_lt}
-use Rattle.std.specs.List.{flat_map, AllByRecursion}
+use Rattle.std.specs.List.{flat_map, list_all, AllByRecursion}
 use Rattle.std.specs.Str.{bytes_eq}
 use Rattle.model.specs.Contents.{Content, Pool, mem, find, up, fits, given, put, content}
 use Rattle.model.specs.Records.{Record}
@@ -20,7 +20,7 @@ use Rattle.trace.specs.Reads.{after, each}
 use Rattle.trace_write.proofs.Indices.{place_front, place_end}
 use Rattle.trace_write.proofs.Lists.{place_other}
 use Rattle.trace_write.proofs.Orders.{after_append}
-use Rattle.trace_write.specs.Saves.{unstruck, every, use_savable, savable, is_new, choice, chosen, numbers_in, place, listed, order, indexed_use, indexed, traced, to_save}
+use Rattle.trace_write.specs.Saves.{unstruck, use_savable, savable, is_new, choice, chosen, numbers_in, place, listed, order, indexed_use, indexed, traced, to_save}
 
 -- THE CONTENTS ARE PUT IN ORDER
 
@@ -167,7 +167,7 @@ uses_same n h f one (u ∷ us) e =
     let a = and_parts (use_ok n h u) _ e in
     ap (λ v. v ∷ map f us) (one h u (use_lawful n h u a.0)) ∙ ap (λ vs. u ∷ vs) (uses_same n (higher h u) f one us a.1)
 
-uses_pass : (n h : ℕ) (test : Use → Bool) → ((g : ℕ) (u : Use) → LawfulUse n g u → test u ≡ true) → (us : List Use) → each (use_ok n) higher h us ≡ true → every test us ≡ true
+uses_pass : (n h : ℕ) (test : Use → Bool) → ((g : ℕ) (u : Use) → LawfulUse n g u → test u ≡ true) → (us : List Use) → each (use_ok n) higher h us ≡ true → list_all test us ≡ true
 uses_pass n h test one [] e = refl
 uses_pass n h test one (u ∷ us) e =
     let a = and_parts (use_ok n h u) _ e in and_from (test u) _ (one h u (use_lawful n h u a.0)) (uses_pass n (higher h u) test one us a.1)

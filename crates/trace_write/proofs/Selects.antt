@@ -3,7 +3,7 @@ use Rattle.std.proofs.Common.{◌≡◌, ℕ, ◌≤◌, Bool, true, false, cond
 use Rattle.std.proofs.ByRecursion.{All-append}
 use Rattle.std.proofs.lemmas.List.{length_push}
 use Rattle.std.proofs.lemmas.Bool.{and_parts, and_from, leb-true, ltb-true}
-use Rattle.std.specs.List.{flat_map, AllByRecursion}
+use Rattle.std.specs.List.{flat_map, list_all, AllByRecursion}
 use Rattle.model.specs.Contents.{Pool, count, holds}
 use Rattle.model.specs.Records.{Record, said}
 use Rattle.model.specs.declared.command.Command.{Command}
@@ -13,7 +13,7 @@ use Rattle.pool.specs.Sound.{Sound}
 use Rattle.trace.specs.Format.{push, count_ok, files_ok, known_command}
 use Rattle.trace.specs.Reads.{after, each}
 use Rattle.trace_write.specs.Rooms.{Number, Named}
-use Rattle.trace_write.specs.Saves.{unstruck, every, use_savable, savable, is_new, choice, numbers_in}
+use Rattle.trace_write.specs.Saves.{unstruck, use_savable, savable, is_new, choice, numbers_in}
 
 abbrev pub with_command : List Command → Record → List Command
 with_command cs r = push cs r.command
@@ -52,7 +52,7 @@ module _ (p : Pool) where
   pub record Savable (r : Record) : Type 0 where
     pub files : files_ok r.command ≡ true
     pub count : count_ok (length r.reads) ≡ true
-    pub reads : every (use_savable p) r.reads ≡ true
+    pub reads : list_all (use_savable p) r.reads ≡ true
     pub write : use_savable p r.write ≡ true
 
   pub savable_parts : (r : Record) → savable p r ≡ true → Savable r
@@ -60,7 +60,7 @@ module _ (p : Pool) where
       let a = and_parts (unstruck r.standing) _ e in
       let b = and_parts (files_ok r.command) _ a.1 in
       let c = and_parts (count_ok (length r.reads)) _ b.1 in
-      let d = and_parts (every (use_savable p) r.reads) (use_savable p r.write) c.1 in
+      let d = and_parts (list_all (use_savable p) r.reads) (use_savable p r.write) c.1 in
       record { files = b.0; count = c.0; reads = d.0; write = d.1 }
 
   use_in : (u : Use) → use_savable p u ≡ true → In p u.number
@@ -69,9 +69,9 @@ module _ (p : Pool) where
       let b = and_parts (leb 1 u.number) (leb u.number (count p)) a.1 in
       (leb-true 1 u.number b.0, leb-true u.number (count p) b.1)
 
-  uses_in : (us : List Use) → every (use_savable p) us ≡ true → AllByRecursion (In p) (map (λ u. u.number) us)
+  uses_in : (us : List Use) → list_all (use_savable p) us ≡ true → AllByRecursion (In p) (map (λ u. u.number) us)
   uses_in [] e = tt
-  uses_in (u ∷ us) e = let a = and_parts (use_savable p u) (every (use_savable p) us) e in (use_in u a.0, uses_in us a.1)
+  uses_in (u ∷ us) e = let a = and_parts (use_savable p u) (list_all (use_savable p) us) e in (use_in u a.0, uses_in us a.1)
 
   pub numbers_in_pool : (r : Record) → savable p r ≡ true → AllByRecursion (In p) (numbers_in r)
   numbers_in_pool r e =

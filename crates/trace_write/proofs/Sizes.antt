@@ -1,11 +1,15 @@
--- A loop that adds up sizes, and what each size is.
-use Rattle.std.proofs.Common.{◌≡◌, ℕ, ◌+◌, ◌*◌, ◌<◌, ◌≤◌, List, [], ◌∷◌, ◌++◌, map, length, get_or, drop, sym, refl, ap, ◌∙◌, mul-one, mul-add, arith}
-use Rattle.std.proofs.lemmas.List.{length-append, length-map, at_drop_more, at_drop_all}
-use Rattle.std.specs.List.{flat_map}
+-- How many bytes contents, uses and records take, and that they are not too many to be added up.
+use Rattle.std.proofs.Common.{◌≡◌, ℕ, ◌+◌, ◌-◌, ◌*◌, ◌≤◌, min, List, [], ◌∷◌, ◌++◌, map, length, get_or, sym, refl, ap, ◌∙◌, inl, inr, arith}
+use Rattle.std.proofs.lemmas.List.{length-append, length-map, length-take, get_or_past}
+use Rattle.std.proofs.lemmas.List.Recursion.{is_sum_by}
+use Rattle.std.proofs.lemmas.List.Sums.{sum_by-le}
+use Rattle.std.proofs.lemmas.Bool.{cases_lt}
+use Rattle.std.specs.List.{flat_map, sum_by}
 use Rattle.model.specs.Contents.{Pool, content}
 use Rattle.model.specs.Records.{said}
 use Rattle.model.specs.declared.record.Record as Code
 use Rattle.model.specs.declared.record.Use.{Use}
+use Rattle.pool.specs.Sound.{Sound}
 use Rattle.trace.specs.Format.{command_bytes, use_bytes}
 use Rattle.trace_write.specs.Puts.{content_of, use_of, record_of}
 use Rattle.trace_write.specs.Saves.{indexed_use}
@@ -41,22 +45,27 @@ fields_size ns r us =
 pub record_size : (ns : List ℕ) (r : Code.Record) → length (record_of ns r) ≡ 9 + 3 * length (said r).reads
 record_size ns r = ap length (sym (fields_are ns r)) ∙ fields_size ns r (said r).reads
 
--- what is added so far and what is left give the size
-pub record Sum {X : Type 0} (enc : X → List ℕ) (most : ℕ) (xs : List X) (i sum : ℕ) : Type 0 where
-  pub whole : sum + length (flat_map enc (drop i xs)) ≡ length (flat_map enc xs)
-  pub low : sum ≤ most * i
+-- the length of pieces is the sum of their lengths
+pub pieces_size : {X : Type 0} (enc : X → List ℕ) (size : X → ℕ) → ((x : X) → length (enc x) ≡ size x) → (xs : List X) → length (flat_map enc xs) ≡ sum_by size xs
+pieces_size enc size same =
+    is_sum_by (λ xs. length (flat_map enc xs)) size refl
+    (λ x xs. length-append (enc x) (flat_map enc xs) ∙ ap (λ n. n + length (flat_map enc xs)) (same x))
 
-module _ {X : Type 0} (enc : X → List ℕ) (most : ℕ) (xs : List X) where
-  pub sum_none : Sum enc most xs 0 0
-  sum_none = record { whole = omega arith; low = omega arith }
+-- HOW LARGE THEY CAN BE
 
-  pub sum_more : (i sum : ℕ) → Sum enc most xs i sum → (d : X) → i < length xs → length (enc (get_or xs i d)) ≤ most → (k : ℕ) → k ≡ sum + length (enc (get_or xs i d)) → Sum enc most xs (i + 1) k
-  sum_more i sum inv d lt h k e =
-      let a = ap length (at_drop_more (flat_map enc) xs i d lt) ∙ length-append (enc (get_or xs i d)) (flat_map enc (drop (i + 1) xs)) in
-      let b = inv.whole in
-      let c = inv.low in
-      let m : most * (i + 1) ≡ most * i + most = mul-add most i 1 ∙ ap (λ x. most * i + x) (mul-one most) in
-      record { whole = omega arith; low = omega arith }
+content_short : (p : Pool) → Sound p → (n : ℕ) → length (content p n) ≤ 4096
+content_short p sound n =
+    elim (cases_lt (n - 1) (length p.contents)) [
+      | inl h ↦ sound.short (n - 1) h
+      | inr h ↦ (let e = ap length (get_or_past p.contents (n - 1) [] h) in omega arith)
+    ]
 
-  pub sum_all : (i sum : ℕ) → Sum enc most xs i sum → length xs ≤ i → sum ≡ length (flat_map enc xs)
-  sum_all i sum inv h = let a = ap length (at_drop_all (flat_map enc) xs i h) in let b = inv.whole in omega arith
+pub contents_low : (p : Pool) → Sound p → (ns : List ℕ) → sum_by (λ n. 2 + length (content p n)) ns ≤ length ns * 4098
+contents_low p sound ns =
+    sum_by-le (λ n. 2 + length (content p n)) 4098 ns (λ k d h. let s = content_short p sound (get_or ns k d) in omega arith)
+
+reads_few : (r : Code.Record) → length (said r).reads ≤ 16
+reads_few r = let l = length-take (min r.count 16) r.reads in omega arith
+
+pub records_low : (rs : List Code.Record) → sum_by (λ r. 9 + 3 * length (said r).reads) rs ≤ length rs * 57
+records_low rs = sum_by-le (λ r. 9 + 3 * length (said r).reads) 57 rs (λ k d h. let s = reads_few (get_or rs k d) in omega arith)

@@ -1,6 +1,6 @@
 -- Which trace save writes, of a pool and the records of a book.
 use Rattle.std.specs.Prelude.{ℕ, suc, Bool, true, false, cond, not, ◌&&◌, List, [], ◌∷◌, ◌++◌, map, length, ◌==◌, nat_le, nat_lt}
-use Rattle.std.specs.List.{flat_map}
+use Rattle.std.specs.List.{flat_map, list_all}
 use Rattle.model.specs.Contents.{Pool, holds, content}
 use Rattle.model.specs.Records.{Record}
 use Rattle.model.specs.Load.{Traced}
@@ -17,17 +17,13 @@ unstruck Hint = true
 unstruck Own = true
 unstruck Struck = false
 
-abbrev pub every : {X : Type 0} → (X → Bool) → List X → Bool
-every test [] = true
-every test (x ∷ xs) = test x && every test xs
-
 abbrev pub use_savable : Pool → Use → Bool
 use_savable p u = nat_le u.file 63 && holds p u.number
 
 abbrev pub savable : Pool → Record → Bool
 savable p r =
     unstruck r.standing
-    && (files_ok r.command && (count_ok (length r.reads) && (every (use_savable p) r.reads && use_savable p r.write)))
+    && (files_ok r.command && (count_ok (length r.reads) && (list_all (use_savable p) r.reads && use_savable p r.write)))
 
 -- no more than 256, and one of a command: the records of every book are so
 abbrev pub is_new : List Record → Record → Bool

@@ -6,7 +6,7 @@ ghost use Rattle.std.proofs.Common.{rules, arith};
 
 use super::Image;
 use crate::codec::{decoded, encoded, is_laid, number_in, sized};
-use crate::numbers::{absent, with_number};
+use crate::numbers::with_number;
 use crate::store::FileStore;
 use model::Refusal;
 
@@ -15,10 +15,11 @@ impl Image {
     pub fn new() -> Image
         ensures { means result ≡ replicate 64 0 }
     {
-        let bytes = encoded(absent());
+        let bytes = encoded([0; 64]);
         Image { bytes }
     }
 
+    // Kept: it fills the image that a caller has, which stays as it was where the bytes are refused.
     /// Takes over the bytes of an image, or refuses those that are not the layout of a map; then nothing has
     /// changed.
     pub fn fill(&mut self, bytes: &[u8]) -> Result<(), Refusal>
@@ -30,9 +31,7 @@ impl Image {
         ensures found { (ns : List ℕ) → Map ns → bytes.now ≡ layout ns → is_ok result ≡ true }
         ensures same { (ns : List ℕ) → Map ns → bytes.now ≡ layout ns → means self.new ≡ ns }
     {
-        let Some(image) = sized(bytes) else {
-            return Err(Refusal::ImageSize);
-        };
+        let image = sized(bytes).ok_or(Refusal::ImageSize)?;
         if !is_laid(image) {
             return Err(Refusal::ImageLayout);
         }

@@ -1,12 +1,12 @@
-ghost use Rattle.std.specs.Prelude.{◌≡◌, ◌+◌, ◌-◌, ◌<◌, ◌≤◌, [], ◌∷◌, ◌++◌, length, take, if◌then◌else◌, nat_le, nat_lt, slice_set};
+ghost use Rattle.std.specs.Prelude.{◌≡◌, ◌+◌, ◌-◌, ◌<◌, ◌≤◌, [], ◌∷◌, ◌++◌, length, take, if◌then◌else◌, MatchOption, nat_le, nat_lt, slice_set};
+ghost use Rattle.std.specs.Fn.{FnOnceReturnsAtMut};
 ghost use Rattle.std.specs.Option.{option_map};
 ghost use Rattle.std.specs.List.{slice_get};
-ghost use Rattle.lists.specs.Altered.{altered};
 ghost use Rattle.lists.specs.Held.{held, room};
 
 use super::Lent;
-use crate::change::Change;
-use crate::slices::{element, front};
+
+// Kept throughout: a bool tells whether there was room or a place, as a set's `insert` does; there is nothing to hand on.
 
 impl<'a, T: Copy> Lent<'a, T> {
     /// An empty list with as much room as is lent.
@@ -21,8 +21,7 @@ impl<'a, T: Copy> Lent<'a, T> {
     pub fn as_slice(&self) -> &[T]
         ensures { result.now ≡ held self.now }
     {
-        let items = &*self.items;
-        front(items, self.len)
+        &self.items[..self.len]
     }
 
     /// How many elements it holds.
@@ -43,7 +42,7 @@ impl<'a, T: Copy> Lent<'a, T> {
     pub fn at(&self, at: usize) -> Option<&T>
         ensures { option_map (λ x. x.now) result ≡ slice_get (held self.now) at }
     {
-        element(self.as_slice(), at)
+        self.as_slice().get(at)
     }
 
     /// A copy of the element at a place.
@@ -59,9 +58,10 @@ impl<'a, T: Copy> Lent<'a, T> {
         ensures held { held self.new ≡ (if result then held self.old ++ x ∷ [] else held self.old) }
         ensures room { room self.new ≡ room self.old }
     {
-        let fits = self.len() < self.room();
+        let fits = self.len < self.items.len();
         if fits {
-            self.append(x);
+            self.items[self.len] = x;
+            self.len += 1;
         }
         fits
     }
@@ -72,9 +72,11 @@ impl<'a, T: Copy> Lent<'a, T> {
         ensures held { held self.new ≡ (if result then held self.old ++ more.now else held self.old) }
         ensures room { room self.new ≡ room self.old }
     {
-        let fits = more.len() <= self.room().saturating_sub(self.len());
+        let fits = more.len() <= self.items.len() - self.len;
         if fits {
-            self.append_all(more);
+            let end = self.len + more.len();
+            self.items[self.len..end].copy_from_slice(more);
+            self.len = end;
         }
         fits
     }
@@ -85,20 +87,26 @@ impl<'a, T: Copy> Lent<'a, T> {
         ensures held { held self.new ≡ (if result then slice_set (held self.old) at x else held self.old) }
         ensures room { room self.new ≡ room self.old }
     {
-        let fits = at < self.len();
+        let fits = at < self.len;
         if fits {
-            self.write(at, x);
+            self.items[at] = x;
         }
         fits
     }
 
     /// Changes the element at a place where it lies; false, and nothing changed, where nothing is held there.
-    pub fn change<C: Change<T>>(&mut self, at: usize, change: &C) -> bool
+    pub fn change<F: FnOnce(&mut T)>(&mut self, at: usize, f: F) -> bool
+        requires { F.IsAlwaysCallable f }
         ensures fits { result ≡ nat_lt at (length (held self.old)) }
-        ensures held { held self.new ≡ altered (C.Change.changed change.now) (held self.old) at }
+        ensures held { MatchOption (slice_get (held self.old) at) (held self.new ≡ held self.old) (λ old. (new : T) × FnOnceReturnsAtMut F.FnOnce f old tt new × (held self.new ≡ slice_set (held self.old) at new)) }
         ensures room { room self.new ≡ room self.old }
     {
-        self.alter(at, change)
+        let is_held = at < self.len;
+        if is_held {
+            let items = &mut *self.items;
+            f(&mut items[at]);
+        }
+        is_held
     }
 
     /// Keeps the first elements, at most as many as are told: the count never rises.
@@ -106,9 +114,7 @@ impl<'a, T: Copy> Lent<'a, T> {
         ensures held { held self.new ≡ take count (held self.old) }
         ensures room { room self.new ≡ room self.old }
     {
-        if count < self.len() {
-            self.shorten(count);
-        }
+        self.len = self.len.min(count);
     }
 
     /// Empties the list.
@@ -117,54 +123,5 @@ impl<'a, T: Copy> Lent<'a, T> {
         ensures room { room self.new ≡ room self.old }
     {
         self.len = 0;
-    }
-
-    fn append(&mut self, x: T)
-        requires { length (held self.old) < room self.old }
-        ensures held { held self.new ≡ held self.old ++ x ∷ [] }
-        ensures room { room self.new ≡ room self.old }
-    {
-        let end = self.len();
-        self.items[end] = x;
-        self.len = end + 1;
-    }
-
-    fn append_all(&mut self, more: &[T])
-        requires { length more.now ≤ room self.old - length (held self.old) }
-        ensures held { held self.new ≡ held self.old ++ more.now }
-        ensures room { room self.new ≡ room self.old }
-    {
-        let start = self.len();
-        let end = start + more.len();
-        self.items[start..end].copy_from_slice(more);
-        self.len = end;
-    }
-
-    fn write(&mut self, at: usize, x: T)
-        requires { at < length (held self.old) }
-        ensures held { held self.new ≡ slice_set (held self.old) at x }
-        ensures room { room self.new ≡ room self.old }
-    {
-        self.items[at] = x;
-    }
-
-    fn shorten(&mut self, count: usize)
-        requires { count < length (held self.old) }
-        ensures held { held self.new ≡ take count (held self.old) }
-        ensures room { room self.new ≡ room self.old }
-    {
-        self.len = count;
-    }
-
-    fn alter<C: Change<T>>(&mut self, at: usize, change: &C) -> bool
-        ensures fits { result ≡ nat_lt at (length (held self.old)) }
-        ensures held { held self.new ≡ altered (C.Change.changed change.now) (held self.old) at }
-        ensures room { room self.new ≡ room self.old }
-    {
-        let is_held = at < self.len();
-        if is_held {
-            change.apply(&mut self.items[at]);
-        }
-        is_held
     }
 }

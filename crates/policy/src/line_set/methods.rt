@@ -1,7 +1,8 @@
-ghost use Rattle.std.specs.Prelude.{◌≡◌, ℕ, min, false, not, ◌&&◌, ◌||◌, if◌then◌else◌, ◌==◌, nat_lt};
+ghost use Rattle.std.specs.Prelude.{◌≡◌, ℕ, min, false, not, ◌&&◌, ◌||◌, ◌==◌, nat_lt};
 ghost use Rattle.policy.specs.Lines.{has, some_below, leads, highest, Lowest};
 
 use super::LineSet;
+use std::array;
 
 impl LineSet {
     /// The set of no line.
@@ -15,12 +16,9 @@ impl LineSet {
     pub fn below(count: u8) -> LineSet
         ensures { (k : ℕ) → has result k ≡ nat_lt k (min count 64) }
     {
-        let mut lines = [false; 64];
-        let end = if count < 64 { count } else { 64 };
-        for i in 0..end {
-            lines[i as usize] = true;
+        LineSet {
+            lines: array::from_fn(|line| line < count as usize),
         }
-        LineSet { lines }
     }
 
     /// A line is in the set.
@@ -52,12 +50,7 @@ impl LineSet {
     pub fn lowest(&self) -> Option<u8>
         ensures { Lowest (has self.now) result }
     {
-        for i in 0..64u8 {
-            if self.lines[i as usize] {
-                return Some(i);
-            }
-        }
-        None
+        (0..64u8).find(|line| self.has(*line))
     }
 
     /// A line is the lowest of the set.
@@ -71,29 +64,17 @@ impl LineSet {
     fn any_below(&self, line: u8) -> bool
         ensures { result ≡ some_below (has self.now) line }
     {
-        for lower in 0..line {
-            if self.has(lower) {
-                return true;
-            }
-        }
-        false
+        (0..line).any(|lower| self.has(lower))
     }
 
-    /// A line if it is in the set, else the best so far.
-    fn higher(&self, line: u8, best: u8) -> u8
-        ensures { result ≡ (if has self.now line then line else best) }
-    {
-        if self.has(line) { line } else { best }
-    }
-
+    // Kept: `Waits::highest_free` is this chain with another test; one function over a closure for both is no plainer.
     /// The highest line of the set, or the one given if it has none.
     pub fn highest_or(&self, default: u8) -> u8
         ensures { result ≡ highest (has self.now) 64 default }
     {
-        let mut best = default;
-        for line in 0..64u8 {
-            best = self.higher(line, best);
-        }
-        best
+        (0..64u8)
+            .rev()
+            .find(|line| self.has(*line))
+            .unwrap_or(default)
     }
 }

@@ -1,42 +1,23 @@
 ghost use Rattle.std.specs.Prelude.{◌≡◌, map};
 ghost use Rattle.std.specs.Option.{option_map};
 ghost use Rattle.model.specs.Records.{said};
-ghost use Rattle.policy.specs.Waiting.{unless_struck, finds, reads_file, waits_by};
+ghost use Rattle.policy.specs.Waiting.{finds, reads_file, waits_by};
 
 use model::{Command, Record, Standing, Use, record_of};
 
-/// A record counts as none if it is struck.
-fn unless_struck(candidate: Option<Record>) -> Option<Record>
-    ensures { option_map said result ≡ unless_struck (option_map said candidate) }
-{
-    let candidate = candidate?;
-    match candidate.standing {
-        Standing::Hint | Standing::Own => Some(candidate),
-        Standing::Struck => None,
-    }
-}
-
-/// The record that a line finds.
+/// The record that a line finds. A record counts as none if it is struck.
 pub fn found(commands: &[Command], records: &[Record], line: usize) -> Option<Record>
     ensures { option_map said result ≡ finds commands.now (map said records.now) line }
 {
-    if line < commands.len() {
-        unless_struck(record_of(records, commands[line]))
-    } else {
-        None
-    }
+    let command = commands.get(line)?;
+    record_of(records, *command).filter(|record| record.standing != Standing::Struck)
 }
 
 /// One of the reads is of a file.
 fn reads_file(reads: &[Use], file: u8) -> bool
     ensures { result ≡ reads_file file reads.now }
 {
-    for read in reads {
-        if file == read.file {
-            return true;
-        }
-    }
-    false
+    reads.iter().any(|read| file == read.file)
 }
 
 /// By their records, a line waits on an earlier one.

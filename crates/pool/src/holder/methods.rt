@@ -1,11 +1,11 @@
-ghost use Rattle.std.specs.Prelude.{◌≡◌, ◌-◌, ◌≤◌, min, [], length, take, IfSome, is_ok, nat_lt};
+ghost use Rattle.std.specs.Prelude.{◌≡◌, ◌+◌, ◌-◌, ◌<◌, ◌≤◌, MatchOption, min, true, false, [], length, take, IfSome, is_ok, is_some, nat_lt};
 ghost use Rattle.std.specs.Option.{option_map};
-ghost use Rattle.model.specs.Contents.{content as content_of, count as count_of, used as used_by, told, holds, known, find, given, put, cut};
-ghost use Rattle.pool.specs.Contents.{meant, shown, part, number_told};
+ghost use Rattle.std.specs.Str.{bytes_eq};
+ghost use Rattle.model.specs.Contents.{content as content_of, count as count_of, used as used_by, told, holds, known, find, mem, fits, given, put, cut};
+ghost use Rattle.pool.specs.Contents.{meant, shown, part, number_told, number_found};
 ghost use Rattle.pool.specs.Sound.{Sound};
 
 use super::Pool;
-use crate::store::Store;
 use crate::{Content, Found, NoRoom, Place, Put};
 
 impl<'a> Pool<'a> {
@@ -13,13 +13,12 @@ impl<'a> Pool<'a> {
     pub fn new(bytes: &'a mut [u8], places: &'a mut [Place]) -> Pool<'a>
         ensures { meant result ≡ record { contents = []; places = min (length places.old) 1024; room = min (length bytes.old) 65536 } }
     {
-        let store = Store {
+        Pool {
             bytes,
             places,
             used: 0,
             count: 0,
-        };
-        Pool { store }
+        }
     }
 
     /// How many contents it holds.
@@ -27,29 +26,29 @@ impl<'a> Pool<'a> {
         ensures value { result ≡ count_of (meant self.now) }
         ensures sound { Sound (meant self.now) }
     {
-        self.size()
+        self.count
     }
 
     /// How many bytes its contents have together.
     pub fn used(&self) -> usize
         ensures { result ≡ used_by (meant self.now).contents }
     {
-        self.filled()
+        self.used
     }
 
     /// A number is in the pool.
     pub fn holds(&self, number: u16) -> bool
         ensures { result ≡ holds (meant self.now) number }
     {
-        let count = self.count();
-        number >= 1 && number <= count
+        number >= 1 && number <= self.count
     }
 
+    // Kept: 0 stands for an absent file wherever a number of a content is told.
     /// A number, read as 0 if it is not in the pool.
     pub fn known(&self, number: u16) -> u16
         ensures { result ≡ known (meant self.now) number }
     {
-        if number <= self.count() { number } else { 0 }
+        if number <= self.count { number } else { 0 }
     }
 
     /// The content of a number: the part of the lent bytes that it is, and where it starts; none for 0 and for a
@@ -60,7 +59,10 @@ impl<'a> Pool<'a> {
         ensures part { IfSome result (λ c. shown c ≡ part self.now c.start (length (shown c))) }
     {
         if self.holds(number) {
-            Some(self.numbered(number))
+            let place = self.places[(number - 1) as usize];
+            let start = place.start;
+            let bytes = &self.bytes[start..start + place.len];
+            Some(Content { bytes, start })
         } else {
             None
         }
@@ -72,16 +74,18 @@ impl<'a> Pool<'a> {
         ensures value { result.now ≡ content_of (meant self.now) number }
         ensures short { length result.now ≤ 4096 }
     {
-        self.bytes_of(number)
+        match self.content(number.max(1)) {
+            Some(content) => content.bytes,
+            None => &[],
+        }
     }
 
-    /// The number of the content that equals this one, or 0.
-    pub fn find(&self, content: &[u8]) -> Found
-        ensures { result.number ≡ find content.now (meant self.now).contents }
+    /// The number of the content that equals this one, if there is one.
+    pub fn find(&self, content: &[u8]) -> Option<Found>
+        ensures number { number_found result ≡ find content.now (meant self.now).contents }
+        ensures found { is_some result ≡ nat_lt 0 (find content.now (meant self.now).contents) }
     {
-        Found {
-            number: self.search(content),
-        }
+        self.place_of(content).map(|at| Found { number: at + 1 })
     }
 
     /// The number of the content. Unless an equal one is held, it is appended, or refused where it is over 4,096
@@ -91,15 +95,14 @@ impl<'a> Pool<'a> {
         ensures taken { is_ok result ≡ nat_lt 0 (given (meant self.old) content.now) }
         ensures after { meant self.new ≡ put (meant self.old) content.now }
     {
-        let number = self.search(content);
-        if number != 0 {
+        if let Some(Found { number }) = self.find(content) {
             return Ok(Put { number });
         }
-        if !self.has_room(content) {
+        if !self.fits(content) {
             return Err(NoRoom);
         }
-        self.store.append(content);
-        let number = self.store.count;
+        self.append(content);
+        let number = self.count;
         Ok(Put { number })
     }
 
@@ -107,8 +110,52 @@ impl<'a> Pool<'a> {
     pub fn cut(&mut self, count: u16)
         ensures { meant self.new ≡ cut count (meant self.old) }
     {
-        if count < self.size() {
-            self.store.keep(count);
+        if count < self.count {
+            self.used = self.places[count as usize].start;
+            self.count = count;
         }
+    }
+
+    /// The place of the first content that equals this one, if there is one.
+    fn place_of(&self, content: &[u8]) -> Option<u16>
+        ensures { MatchOption result (find content.now (meant self.now).contents ≡ 0) (λ at. (at < self.now.count) × (find content.now (meant self.now).contents ≡ at + 1)) }
+    {
+        (0..self.count).find(|at| self.equals(*at + 1, content))
+    }
+
+    /// The content of a number is this one.
+    fn equals(&self, number: u16, content: &[u8]) -> bool
+        ensures { result ≡ bytes_eq content.now (content_of (meant self.now) number) }
+    {
+        content == self.bytes(number)
+    }
+
+    /// There is a place and room for one more content.
+    fn fits(&self, content: &[u8]) -> bool
+        ensures { result ≡ fits (meant self.now) content.now }
+    {
+        let len = content.len();
+        let count = self.count() as usize;
+        let used = self.used();
+        let places = self.places.len().min(1024);
+        let room = self.bytes.len().min(65536);
+        len <= 4096 && count + 1 <= places && used + len <= room
+    }
+
+    /// Appends a content that it does not hold and has room for.
+    fn append(&mut self, content: &[u8])
+        requires fresh { mem content.now (meant self.old).contents ≡ false }
+        requires fits { fits (meant self.old) content.now ≡ true }
+        ensures after { meant self.new ≡ put (meant self.old) content.now }
+        ensures number { self.new.count ≡ given (meant self.old) content.now }
+    {
+        let start = self.used;
+        let len = content.len();
+        let end = start + len;
+        self.bytes[start..end].copy_from_slice(content);
+        let at = self.count as usize;
+        self.places[at] = Place { start, len };
+        self.used = end;
+        self.count += 1;
     }
 }

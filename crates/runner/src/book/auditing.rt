@@ -4,35 +4,19 @@ ghost use Rattle.model.specs.Calls.{on_audit};
 ghost use Rattle.model.specs.Promise.{Promised};
 ghost use Rattle.model.specs.Records.{said};
 ghost use Rattle.pool.specs.Contents.{meant};
-ghost use Rattle.runner.specs.Standings.{stands_as};
 ghost use Rattle.runner.specs.Views.{records, places, world_of};
 
 use super::Book;
 use crate::log::Log;
 use engine::is_true;
-use lists::Change;
 use model::{Record, Refusal, Standing};
 use pool::Pool;
-
-/// The change of a record's standing, and of nothing else of it.
-#[derive(Clone, Copy)]
-struct Stand {
-    standing: Standing,
-}
-
-impl Change<Record> for Stand {
-    ghost changed = { λ s r. stands_as s.standing r };
-
-    fn apply(&self, element: &mut Record) {
-        element.standing = self.standing;
-    }
-}
 
 /// What an audit finds of a record.
 fn finding(candidate: &Record, pool: &Pool) -> Standing
     ensures { result ≡ finding (meant pool.now) (said candidate.now) }
 {
-    if is_true(candidate.command, candidate.reads(), candidate.write, pool) {
+    if is_true(candidate, pool) {
         Standing::Own
     } else {
         Standing::Struck
@@ -47,11 +31,9 @@ impl<'a> Book<'a> {
         if log.is_open() {
             return Err(Refusal::RunOpen);
         }
-        let Some(candidate) = self.list.get(at) else {
-            return Err(Refusal::NoSuchRecord);
-        };
+        let candidate = self.list.get(at).ok_or(Refusal::NoSuchRecord)?;
         let standing = finding(&candidate, pool);
-        self.list.change(at, &Stand { standing });
+        self.list.change(at, |record| record.standing = standing);
         Ok(standing)
     }
 }

@@ -1,4 +1,5 @@
-ghost use Rattle.std.specs.Prelude.{◌≡◌, min, [], map, length};
+ghost use Rattle.std.specs.Prelude.{◌≡◌, min, not, [], map, length};
+ghost use Rattle.std.specs.List.{position_from};
 ghost use Rattle.std.specs.Option.{option_map};
 ghost use Rattle.model.specs.Book.{record_of, in_script, keep};
 ghost use Rattle.model.specs.Records.{said};
@@ -7,7 +8,7 @@ ghost use Rattle.runner.specs.Views.{records, places};
 
 use super::Book;
 use lists::Lent;
-use model::{Command, Record, record_of, same_command};
+use model::{Command, Record, is_among, place_of, record_of};
 
 /// The most places that a book uses.
 const MOST: usize = 256;
@@ -49,26 +50,14 @@ impl<'a> Book<'a> {
     fn place_of(&self, command: Command) -> Option<usize>
         ensures { result ≡ place_of command (records self.now) }
     {
-        let list = self.list.as_slice();
-        for (at, record) in list.iter().enumerate() {
-            if same_command(command, record.command) {
-                return Some(at);
-            }
-        }
-        None
+        place_of(self.records(), command)
     }
 
     /// The lowest place whose command is not in the script.
     fn free_place(&self, commands: &[Command]) -> Option<usize>
         ensures { result ≡ free_place commands.now (records self.now) }
     {
-        let list = self.list.as_slice();
-        for (at, record) in list.iter().enumerate() {
-            if !is_in(record.command, commands) {
-                return Some(at);
-            }
-        }
-        None
+        first_free(self.records(), commands)
     }
 
     /// Takes in the own record of a line that was kept: in place of its command's record, else appended, else in the
@@ -91,14 +80,10 @@ impl<'a> Book<'a> {
     }
 }
 
-/// A command is in a script.
-fn is_in(command: Command, commands: &[Command]) -> bool
-    ensures { result ≡ in_script command commands.now }
+/// The first place whose command is not in a script.
+fn first_free(list: &[Record], commands: &[Command]) -> Option<usize>
+    ensures { result ≡ position_from (λ r. not (in_script r.command commands.now)) 0 list.now }
 {
-    for c in commands {
-        if same_command(command, *c) {
-            return true;
-        }
-    }
-    false
+    list.iter()
+        .position(|record| !is_among(commands, record.command))
 }

@@ -1,4 +1,4 @@
-ghost use Rattle.std.specs.Prelude.{◌≡◌, ◌≤◌, length};
+ghost use Rattle.std.specs.Prelude.{◌≡◌, ℕ, ◌<◌, ◌≤◌, true, false, length, slice_index};
 ghost use Rattle.model.specs.Begin.{begin_refusal, some_above};
 ghost use Rattle.model.specs.Calls.{on_begin};
 ghost use Rattle.model.specs.Promise.{Promised};
@@ -6,11 +6,13 @@ ghost use Rattle.pool.specs.Contents.{meant};
 ghost use Rattle.script.specs.Scripts.{meaning};
 ghost use Rattle.runner.specs.Views.{world};
 
+// Kept throughout: files, pool, log and book are parameters of their own, each taken as weakly as a call needs it.
+
 use super::Log;
 use crate::book::Book;
 use crate::ticket::Ticket;
 use files::FileStore;
-use model::{Command, Refusal};
+use model::Refusal;
 use pool::Pool;
 use script::Script;
 
@@ -24,30 +26,33 @@ const LEAST: usize = 64;
 fn some_above<F: FileStore>(number: u16, files: &F) -> bool
     ensures { result ≡ some_above number (F.FileStore.map files.now) }
 {
-    for file in 0..64u8 {
-        if number < files.tell(file) {
-            return true;
-        }
-    }
-    false
+    is_above(number, files)
+}
+
+/// The same, said file by file: that one is above, or that none is.
+fn is_above<F: FileStore>(number: u16, files: &F) -> bool
+    ensures above { result ≡ true → (k : ℕ) × (k < 64) × (number < slice_index (F.FileStore.map files.now) k) }
+    ensures below { result ≡ false → (k : ℕ) → k < 64 → slice_index (F.FileStore.map files.now) k ≤ number }
+{
+    (0..64u8).any(|file| number < files.tell(file))
 }
 
 impl<'a> Log<'a> {
-    /// Why a run of these commands cannot begin.
+    // Kept: by the rules a begin that is refused hands out a blank ticket, which tells why; none is an error of begin.
+    /// Why a run of a script cannot begin.
     fn begin_refusal<F: FileStore>(
         &self,
-        commands: &[Command],
+        script: &Script,
         files: &F,
         pool: &Pool,
         book: &Book,
     ) -> Option<Refusal>
-        requires { length commands.now ≤ 64 }
-        ensures { result ≡ begin_refusal commands.now (world (F.FileStore.map files.now) (meant pool.now) self.now book.now) }
+        ensures { result ≡ begin_refusal (meaning script.now).commands (world (F.FileStore.map files.now) (meant pool.now) self.now book.now) }
     {
         if self.is_open() {
             return Some(Refusal::RunOpen);
         }
-        if self.places() < ACTS * commands.len() {
+        if self.places() < ACTS * script.commands().len() {
             return Some(Refusal::LogTooSmall);
         }
         if book.places() < LEAST {
@@ -69,11 +74,10 @@ impl<'a> Log<'a> {
     ) -> Ticket
         ensures { Promised (on_begin (meaning script.now).commands result.refusal) (world (F.FileStore.map files.now) (meant pool.now) self.old book.now) (world (F.FileStore.map files.now) (meant pool.now) self.new book.now) }
     {
-        let commands = script.commands();
-        if let Some(refusal) = self.begin_refusal(commands, files, pool, book) {
+        if let Some(refusal) = self.begin_refusal(script, files, pool, book) {
             return Ticket::blank(refusal);
         }
-        self.open(commands, files, pool.count());
+        self.open(script, files, pool.count());
         Ticket::live()
     }
 }

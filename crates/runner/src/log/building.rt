@@ -9,6 +9,8 @@ ghost use Rattle.script.specs.Scripts.{meaning};
 ghost use Rattle.runner.specs.Ends.{Begun, WholeRun, stop_told};
 ghost use Rattle.runner.specs.Views.{world};
 
+// Kept throughout: files, pool, log and book are parameters of their own, each taken as weakly as a call needs it.
+
 use super::Log;
 use crate::book::Book;
 use crate::counts::Counts;
@@ -20,12 +22,13 @@ use pool::Pool;
 use script::Script;
 
 /// What a whole run came to: its stop, if it met one, and the lines that it executed and skipped.
-#[derive(Clone, Copy)]
+#[derive(Clone, Copy, Debug, PartialEq, Eq)]
 struct Ran {
     stop: Option<Stop>,
     counts: Counts,
 }
 
+// Kept: a stop is looked for in the answer of a close, and may not be there.
 /// The stop that a close told.
 fn stop_told(end: Result<Closed, CloseRefusal>) -> Option<Stop>
     ensures { result ≡ stop_told end }

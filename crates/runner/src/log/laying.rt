@@ -24,11 +24,8 @@ fn put_starts<F: FileStore>(script: &Script, files: &mut F, pool: &mut Pool) -> 
     let mut before = Table::new();
     copy_all(files, &mut before);
     let count = pool.count();
-    let haves = script.haves();
-    for i in 0..haves {
-        let Some(have) = script.have(i) else {
-            return Ok(());
-        };
+    for have in script.starts() {
+        // Kept: pool and files are put back before the refusal is told.
         let Ok(put) = pool.put(have.content) else {
             pool.cut(count);
             copy_all(&before, files);

@@ -2,7 +2,6 @@ ghost use Rattle.std.specs.Prelude.{◌≡◌, ℕ, false, [], length};
 ghost use Rattle.lists.specs.Held.{held, room};
 ghost use Rattle.model.specs.Step.{left};
 ghost use Rattle.policy.specs.Lines.{has};
-ghost use Rattle.runner.specs.Inner.{Kept};
 ghost use Rattle.runner.specs.Views.{notes};
 
 use super::{Inner, Log};
@@ -10,7 +9,7 @@ use crate::run::Run;
 use crate::states::has_ended;
 use files::Table;
 use lists::Lent;
-use model::{Command, Entry, Kind, LineState, Stop};
+use model::{Command, Entry, LineState, Stop};
 use policy::LineSet;
 
 impl Run {
@@ -19,15 +18,8 @@ impl Run {
         ensures opened { result.opened ≡ false }
         ensures lines { result.lines ≡ 0 }
     {
-        let command = Command {
-            kind: Kind::Copy,
-            a: 0,
-            b: 0,
-            c: 0,
-            d: 0,
-        };
         Run {
-            commands: [command; 64],
+            commands: [Command::default(); 64],
             lines: 0,
             files: Table::new(),
             count: 0,
@@ -35,22 +27,6 @@ impl Run {
             states: [LineState::Waiting; 64],
             opened: false,
         }
-    }
-}
-
-impl<'a> Inner<'a> {
-    /// The lines that have not ended.
-    pub(crate) fn left(&self) -> LineSet
-        requires { Kept self.now }
-        ensures { (k : ℕ) → has result k ≡ left (length (notes self.now.run).commands) (held self.now.entries) k }
-    {
-        let mut set = LineSet::below(self.run.lines);
-        for line in 0..64u8 {
-            if has_ended(self.run.states[line as usize]) {
-                set.remove(line);
-            }
-        }
-        set
     }
 }
 
@@ -76,6 +52,7 @@ impl<'a> Log<'a> {
         self.inner.run.opened
     }
 
+    // Kept: a run may have no stop; as an error it is told by the call that meets it.
     /// The stop of the run, if it met one.
     pub(crate) fn stop(&self) -> Option<Stop>
         ensures { result ≡ self.now.inner.run.stop }
@@ -101,6 +78,14 @@ impl<'a> Log<'a> {
     pub(crate) fn left(&self) -> LineSet
         ensures { (k : ℕ) → has result k ≡ left (length (notes self.now.inner.run).commands) (held self.now.inner.entries) k }
     {
-        self.inner.left()
+        let run = &self.inner.run;
+        let mut set = LineSet::below(run.lines);
+        // Kept: the number of the line is the index, and what is taken out of the set.
+        for line in 0..64u8 {
+            if has_ended(run.states[line as usize]) {
+                set.remove(line);
+            }
+        }
+        set
     }
 }

@@ -4,6 +4,8 @@ ghost use Rattle.pool.specs.Contents.{meant};
 ghost use Rattle.runner.specs.Ends.{Begun, Counted, Over};
 ghost use Rattle.runner.specs.Views.{world};
 
+// Kept throughout: files, pool, log and book are parameters of their own, each taken as weakly as a call needs it.
+
 use super::Log;
 use crate::book::Book;
 use crate::counts::Counts;
@@ -39,9 +41,7 @@ impl<'a> Log<'a> {
             return Err(StepRefusal::Stopped(stop));
         }
         let left = self.left();
-        let Some(front) = left.lowest() else {
-            return Err(StepRefusal::By(Refusal::LinesEnded));
-        };
+        let front = left.lowest().ok_or(Refusal::LinesEnded)?;
         let line = policy.ask(&left, front);
         Ok(self.work(line, files, pool, book))
     }
@@ -66,6 +66,7 @@ impl<'a> Log<'a> {
             executed: 0,
             skipped: 0,
         };
+        // Kept: the states are read before each step, and the step that is refused ends the run.
         loop {
             let states = self.inner.run.states;
             let Ok(stepped) = self.advance(ticket, policy, files, pool, book) else {

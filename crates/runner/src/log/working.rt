@@ -6,8 +6,9 @@ ghost use Rattle.std.specs.Option.{option_map};
 ghost use Rattle.model.specs.Records.{said};
 ghost use Rattle.pool.specs.Contents.{meant};
 ghost use Rattle.engine.specs.States.{state};
-ghost use Rattle.runner.specs.Inner.{Kept};
 ghost use Rattle.runner.specs.Views.{notes, records, places, world_of, world};
+
+// Kept throughout: files, pool, log and book are parameters of their own, each taken as weakly as a call needs it.
 
 use super::{Inner, Log};
 use crate::book::Book;
@@ -18,34 +19,6 @@ use model::{Record, Stepped, Stop};
 use pool::Pool;
 
 impl<'a> Inner<'a> {
-    /// The record by which a line can be skipped: it must have made no act.
-    fn record_for<F: FileStore>(
-        &self,
-        line: u8,
-        files: &F,
-        pool: &Pool,
-        book: &Book,
-    ) -> Option<Record>
-        requires kept { Kept self.now }
-        requires left { left (length (notes self.now.run).commands) (held self.now.entries) line ≡ true }
-        ensures { option_map said result ≡ record_for (world_of (F.FileStore.map files.now) (meant pool.now) self.now (records book.now) (places book.now)) line }
-    {
-        let at = line as usize;
-        if !is_waiting(self.run.states[at]) {
-            return None;
-        }
-        let Some(record) = book.find(self.run.commands[at]) else {
-            return None;
-        };
-        if !is_own(record.standing) {
-            return None;
-        }
-        if !can_skip(record.reads(), record.write, files, pool) {
-            return None;
-        }
-        Some(record)
-    }
-
     /// Notes the stop that a line met, if any, and turns the state of that line alone.
     fn turn(&mut self, line: u8, stop: Option<Stop>, pool: &Pool)
         requires { line < self.old.run.lines }
@@ -60,45 +33,34 @@ impl<'a> Inner<'a> {
         self.run.states[at] = state;
         self.run.stop = stop;
     }
-
-    /// Works on a line: skips it by its record, or makes its next act.
-    pub(crate) fn work<F: FileStore>(
-        &mut self,
-        line: u8,
-        files: &mut F,
-        pool: &mut Pool,
-        book: &Book,
-    ) -> Stepped
-        requires kept { Kept self.old }
-        requires opened { self.old.run.opened ≡ true }
-        requires left { left (length (notes self.old.run).commands) (held self.old.entries) line ≡ true }
-        ensures kept { Kept self.new }
-        ensures line { result.line ≡ line }
-        ensures skipped { result.skipped ≡ skipping (record_for (world_of (F.FileStore.map files.old) (meant pool.old) self.old (records book.now) (places book.now)) line) }
-        ensures stop { result.stop ≡ stop_of (work (world_of (F.FileStore.map files.old) (meant pool.old) self.old (records book.now) (places book.now)) line) }
-        ensures world { world_of (F.FileStore.map files.new) (meant pool.new) self.new (records book.now) (places book.now) ≡ after_work (world_of (F.FileStore.map files.old) (meant pool.old) self.old (records book.now) (places book.now)) line (work (world_of (F.FileStore.map files.old) (meant pool.old) self.old (records book.now) (places book.now)) line) }
-    {
-        let command = self.run.commands[line as usize];
-        let Some(record) = self.record_for(line, files, pool, book) else {
-            let stop = act(command, line, files, pool, &mut self.entries);
-            self.turn(line, stop, pool);
-            return Stepped {
-                line,
-                skipped: false,
-                stop,
-            };
-        };
-        let stop = skip(line, record.reads(), record.write, files, &mut self.entries);
-        self.turn(line, stop, pool);
-        Stepped {
-            line,
-            skipped: true,
-            stop,
-        }
-    }
 }
 
 impl<'a> Log<'a> {
+    /// The record by which a line can be skipped: it must have made no act.
+    fn record_for<F: FileStore>(
+        &self,
+        line: u8,
+        files: &F,
+        pool: &Pool,
+        book: &Book,
+    ) -> Option<Record>
+        requires { left (length (notes self.now.inner.run).commands) (held self.now.inner.entries) line ≡ true }
+        ensures { option_map said result ≡ record_for (world_of (F.FileStore.map files.now) (meant pool.now) self.now.inner (records book.now) (places book.now)) line }
+    {
+        let at = line as usize;
+        if !is_waiting(self.inner.run.states[at]) {
+            return None;
+        }
+        let record = book.find(self.inner.run.commands[at])?;
+        if !is_own(record.standing) {
+            return None;
+        }
+        if !can_skip(&record, files, pool) {
+            return None;
+        }
+        Some(record)
+    }
+
     /// Works on a line of those left: skips it by its record, or makes its next act.
     pub(crate) fn work<F: FileStore>(
         &mut self,
@@ -114,6 +76,22 @@ impl<'a> Log<'a> {
         ensures stop { result.stop ≡ stop_of (work (world (F.FileStore.map files.old) (meant pool.old) self.old book.now) line) }
         ensures world { world (F.FileStore.map files.new) (meant pool.new) self.new book.now ≡ after_work (world (F.FileStore.map files.old) (meant pool.old) self.old book.now) line (work (world (F.FileStore.map files.old) (meant pool.old) self.old book.now) line) }
     {
-        self.inner.work(line, files, pool, book)
+        let Some(record) = self.record_for(line, files, pool, book) else {
+            let command = self.inner.run.commands[line as usize];
+            let stop = act(command, line, files, pool, &mut self.inner.entries).err();
+            self.inner.turn(line, stop, pool);
+            return Stepped {
+                line,
+                skipped: false,
+                stop,
+            };
+        };
+        let stop = skip(line, &record, files, &mut self.inner.entries).err();
+        self.inner.turn(line, stop, pool);
+        Stepped {
+            line,
+            skipped: true,
+            stop,
+        }
     }
 }

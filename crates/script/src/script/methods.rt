@@ -1,4 +1,4 @@
-ghost use Rattle.std.specs.Prelude.{◌≡◌, ◌<◌, ◌≤◌, [], length, IfSome, OnErr, slice_index_or};
+ghost use Rattle.std.specs.Prelude.{◌≡◌, ◌<◌, ◌≤◌, [], map, length, All, IfSome, OnErr, slice_index_or};
 ghost use Rattle.std.specs.Option.{option_map};
 ghost use Rattle.std.specs.List.{slice_get};
 ghost use Rattle.script.specs.Scripts.{meaning, answered};
@@ -21,6 +21,7 @@ impl<'t> Script<'t> {
         }
     }
 
+    // Kept: it fills the script that a caller has, so that there is one whatever is read; a refused text leaves it empty.
     /// Reads a text in place of what the script said; a refused text leaves an empty script.
     pub fn read(&mut self, text: &'t [u8]) -> Result<(), Refused>
         ensures value { answered result self.new ≡ reading text.now }
@@ -31,12 +32,17 @@ impl<'t> Script<'t> {
         Ok(())
     }
 
+    // Kept: by the rules a label has one byte at least, and an empty one says that there is none, as in a report.
     /// The label of a file, empty where it has none.
     pub fn label(&self, file: u8) -> &'t [u8]
         ensures value { result.now ≡ slice_index_or (meaning self.now).labels file [] }
         ensures short { length result.now ≤ 16 }
     {
-        self.tables.label(file)
+        self.tables
+            .labels
+            .get(file as usize)
+            .copied()
+            .unwrap_or(&[])
     }
 
     /// How many starting contents there are.
@@ -44,7 +50,7 @@ impl<'t> Script<'t> {
         ensures value { result ≡ length (meaning self.now).haves }
         ensures few { result ≤ 64 }
     {
-        self.tables.haves()
+        self.tables.haves.len()
     }
 
     /// A starting content, from 0 in the order of the text.
@@ -52,7 +58,16 @@ impl<'t> Script<'t> {
         ensures value { option_map start_of result ≡ slice_get (meaning self.now).haves i }
         ensures fits { IfSome result (λ h. (h.file < 64) × (length h.content.now ≤ 4096)) }
     {
-        self.tables.have(i)
+        self.tables.haves.get(i).copied()
+    }
+
+    /// The starting contents, in the order of the text.
+    pub fn starts(&self) -> &[Have<'t>]
+        ensures value { map start_of result.now ≡ (meaning self.now).haves }
+        ensures few { length result.now ≤ 64 }
+        ensures fit { All (λ h. (h.file < 64) × (length h.content.now ≤ 4096)) result.now }
+    {
+        self.tables.haves.as_slice()
     }
 
     /// The lines' commands, in the order of the text.
@@ -60,6 +75,6 @@ impl<'t> Script<'t> {
         ensures value { result.now ≡ (meaning self.now).commands }
         ensures few { length result.now ≤ 64 }
     {
-        self.tables.commands()
+        self.tables.commands.as_slice()
     }
 }

@@ -2,30 +2,21 @@ ghost use Rattle.std.specs.Prelude.{◌≡◌, ◌<◌};
 ghost use Rattle.script.specs.Text.{nothing, add_label, add_have, add_command};
 ghost use Rattle.script.specs.Views.{held, changed};
 
+use crate::answer::Have;
 use crate::label::{file_of, is_label};
 use crate::tables::Tables;
-use model::{Command, Kind, Refusal};
+use arrayvec::ArrayVec;
+use model::{Command, Refusal};
 
 impl<'t> Tables<'t> {
     /// Tables that hold nothing.
     pub(crate) fn new() -> Tables<'t>
         ensures { held result ≡ nothing }
     {
-        let command = Command {
-            kind: Kind::Copy,
-            a: 0,
-            b: 0,
-            c: 0,
-            d: 0,
-        };
-        let none: &'t [u8] = &[];
         Tables {
-            labels: [none; 64],
-            contents: [none; 64],
-            holders: [0; 64],
-            haves: 0,
-            commands: [command; 64],
-            count: 0,
+            labels: [&[]; 64],
+            haves: ArrayVec::new(),
+            commands: ArrayVec::new(),
         }
     }
 
@@ -35,13 +26,10 @@ impl<'t> Tables<'t> {
         ensures { changed result self.new ≡ add_label (held self.old) number label.now }
     {
         let at = number as usize;
-        if !is_label(label) {
-            return Err(Refusal::BadLabel);
-        }
-        if !self.labels[at].is_empty() {
-            return Err(Refusal::BadLabel);
-        }
-        if file_of(&self.labels, label).is_some() {
+        if !is_label(label)
+            || !self.labels[at].is_empty()
+            || file_of(&self.labels, label).is_some()
+        {
             return Err(Refusal::BadLabel);
         }
         self.labels[at] = label;
@@ -55,28 +43,17 @@ impl<'t> Tables<'t> {
         if content.len() > 4096 {
             return Err(Refusal::HaveTooLong);
         }
-        let at = self.haves;
-        let room = self.contents.len();
-        if at >= room {
-            return Err(Refusal::ScriptFull);
-        }
-        self.contents[at] = content;
-        self.holders[at] = file;
-        self.haves = at + 1;
-        Ok(())
+        self.haves
+            .try_push(Have { file, content })
+            .map_err(|_| Refusal::ScriptFull)
     }
 
     /// Adds a line.
     pub(crate) fn add_command(&mut self, command: Command) -> Result<(), Refusal>
         ensures { changed result self.new ≡ add_command (held self.old) command }
     {
-        let at = self.count;
-        let room = self.commands[..].len();
-        if at >= room {
-            return Err(Refusal::ScriptFull);
-        }
-        self.commands[at] = command;
-        self.count = at + 1;
-        Ok(())
+        self.commands
+            .try_push(command)
+            .map_err(|_| Refusal::ScriptFull)
     }
 }

@@ -1,11 +1,11 @@
-ghost use Rattle.std.specs.Prelude.{◌≡◌, ◌≤◌, map, length, drop};
+ghost use Rattle.std.specs.Prelude.{◌≡◌, map};
 ghost use Rattle.script.specs.Text.{file_line, have_line, command_line, words_line, line_adds};
 ghost use Rattle.script.specs.Views.{held, changed};
 
 use crate::label::{file_of, files_of};
 use crate::tables::Tables;
 use crate::verb::{Verb, verb_of};
-use crate::words::{Words, is_plain};
+use crate::words::{is_plain, words_of};
 use model::{Command, Kind, Refusal, file_number};
 
 impl<'t> Tables<'t> {
@@ -13,12 +13,11 @@ impl<'t> Tables<'t> {
     fn file_line(&mut self, args: &[&'t [u8]]) -> Result<(), Refusal>
         ensures { changed result self.new ≡ file_line (held self.old) (map (λ x. x.now) args.now) }
     {
+        // Kept: `<[_; 2]>::try_from(args)` with a question mark says no more than the pattern.
         let [number, label] = args else {
             return Err(Refusal::BadTextLine);
         };
-        let Some(file) = file_number(number) else {
-            return Err(Refusal::BadLabel);
-        };
+        let file = file_number(number).ok_or(Refusal::BadLabel)?;
         self.add_label(file, label)
     }
 
@@ -26,12 +25,11 @@ impl<'t> Tables<'t> {
     fn have_line(&mut self, args: &[&'t [u8]]) -> Result<(), Refusal>
         ensures { changed result self.new ≡ have_line (held self.old) (map (λ x. x.now) args.now) }
     {
+        // Kept: the same.
         let [label, content] = args else {
             return Err(Refusal::BadTextLine);
         };
-        let Some(file) = file_of(&self.labels, label) else {
-            return Err(Refusal::BadLabel);
-        };
+        let file = file_of(&self.labels, label).ok_or(Refusal::BadLabel)?;
         self.add_have(file, content)
     }
 
@@ -42,16 +40,8 @@ impl<'t> Tables<'t> {
         if args.len() != kind.arity() {
             return Err(Refusal::BadTextLine);
         }
-        let Some(files) = files_of(&self.labels, args) else {
-            return Err(Refusal::BadLabel);
-        };
-        self.add_command(Command {
-            kind,
-            a: files[0],
-            b: files[1],
-            c: files[2],
-            d: files[3],
-        })
+        let [a, b, c, d] = files_of(&self.labels, args).ok_or(Refusal::BadLabel)?;
+        self.add_command(Command { kind, a, b, c, d })
     }
 
     /// Adds what the words of a text line say.
@@ -61,10 +51,7 @@ impl<'t> Tables<'t> {
         let [first, args @ ..] = words else {
             return Ok(());
         };
-        let Some(verb) = verb_of(first) else {
-            return Err(Refusal::BadTextLine);
-        };
-        match verb {
+        match verb_of(first).ok_or(Refusal::BadTextLine)? {
             Verb::Comment => Ok(()),
             Verb::File => self.file_line(args),
             Verb::Have => self.have_line(args),
@@ -72,15 +59,13 @@ impl<'t> Tables<'t> {
         }
     }
 
-    /// Adds what a text line says: the end of `text` from `from` on.
-    pub(crate) fn add_line(&mut self, text: &'t [u8], from: usize) -> Result<(), Refusal>
-        requires { from ≤ length text.now }
-        ensures { changed result self.new ≡ line_adds (held self.old) (drop from text.now) }
+    /// Adds what a text line says.
+    pub(crate) fn add_line(&mut self, line: &'t [u8]) -> Result<(), Refusal>
+        ensures { changed result self.new ≡ line_adds (held self.old) line.now }
     {
-        if !is_plain(&text[from..]) {
+        if !is_plain(line) {
             return Err(Refusal::BadTextLine);
         }
-        let words = Words::from(text, from);
-        self.words_line(words.as_slice())
+        self.words_line(&words_of(line))
     }
 }

@@ -28,6 +28,7 @@ impl<'t> Input<'t> {
         let count = self.count(1024)?;
         let none: &'t [u8] = &[];
         let mut list = [none; 1024];
+        // Kept: an index, since each content is compared with those that stand before it in the table.
         for i in 0..count {
             list[i] = self.content(&list[0..i])?;
         }

@@ -41,8 +41,9 @@ impl<'t> Input<'t> {
     }
 }
 
-/// Reads the whole of a file.
-fn whole(bytes: &[u8]) -> Result<Trace<'_>, Refusal>
+/// Checks the bytes of a trace file from front to back. A file that is accepted holds a lawful trace, and its bytes
+/// are what that trace is written as.
+pub fn check(bytes: &[u8]) -> Result<Trace<'_>, Refusal>
     ensures value { checked result ≡ decoded bytes.now }
     ensures lawful { IfOk result (λ t. lawful (meant t) ≡ true) }
     ensures written { IfOk result (λ t. encoded (meant t) ≡ bytes.now) }
@@ -51,45 +52,20 @@ fn whole(bytes: &[u8]) -> Result<Trace<'_>, Refusal>
     input.trace()
 }
 
-/// Checks the bytes of a trace file from front to back. A file that is accepted holds a lawful trace, and its bytes
-/// are what that trace is written as.
-pub fn check(bytes: &[u8]) -> Result<Trace<'_>, Refusal>
-    ensures value { checked result ≡ decoded bytes.now }
-    ensures lawful { IfOk result (λ t. lawful (meant t) ≡ true) }
-    ensures written { IfOk result (λ t. encoded (meant t) ≡ bytes.now) }
-{
-    whole(bytes)
-}
-
-/// The content of an index in a list; indices count from 1.
-fn content_of<'t>(list: &[&'t [u8]], index: usize) -> Option<&'t [u8]>
-    ensures { option_map (λ x. x.now) result ≡ content_at (map (λ x. x.now) list.now) index }
-{
-    if index == 0 || index > list.len() {
-        return None;
-    }
-    Some(list[index - 1])
-}
-
 impl<'t> Trace<'t> {
     /// Its contents in order: the content of index 1 comes first.
     pub fn contents(&self) -> &[&'t [u8]]
         ensures { map (λ x. x.now) result.now ≡ (meant self.now).contents }
     {
-        let count = self.contents.count;
-        let list = &self.contents.list[..];
-        if count < list.len() {
-            &list[0..count]
-        } else {
-            list
-        }
+        &self.contents.list[..self.contents.count]
     }
 
     /// The content of an index; indices count from 1.
     pub fn content(&self, index: u16) -> Option<&'t [u8]>
         ensures { option_map (λ x. x.now) result ≡ content_at (meant self.now).contents index }
     {
-        content_of(self.contents(), index as usize)
+        let at = usize::from(index).checked_sub(1)?;
+        self.contents().get(at).copied()
     }
 
     /// Its records, one after the other.

@@ -3,19 +3,15 @@ ghost use Rattle.trace.specs.Format.{a_kind, a_command};
 ghost use Rattle.trace.specs.Told.{left, plain};
 
 use crate::input::Input;
-use crate::kinds::{highest, kind_of};
-use crate::known::known_command;
-use model::{Command, Kind, Refusal};
+use crate::kinds::highest;
+use model::{Command, Kind, Refusal, is_among};
 
 impl<'t> Input<'t> {
     fn kind(&mut self) -> Result<Kind, Refusal>
         ensures { plain result self.new ≡ a_kind (left self.old) }
     {
         let byte = self.byte()?;
-        match kind_of(byte) {
-            Some(kind) => Ok(kind),
-            None => Err(Refusal::TraceRule),
-        }
+        Kind::try_from(byte).map_err(|_| Refusal::TraceRule)
     }
 
     /// A command that differs from the earlier ones.
@@ -28,7 +24,7 @@ impl<'t> Input<'t> {
         let c = self.file(highest(kind, 3))?;
         let d = self.file(highest(kind, 4))?;
         let command = Command { kind, a, b, c, d };
-        if known_command(earlier, command) {
+        if is_among(earlier, command) {
             return Err(Refusal::TraceRule);
         }
         Ok(command)

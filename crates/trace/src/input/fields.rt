@@ -10,10 +10,7 @@ impl<'t> Input<'t> {
     pub fn byte(&mut self) -> Result<u8, Refusal>
         ensures { plain result self.new ≡ a_byte (left self.old) }
     {
-        let bytes = self.rest;
-        let [first, rest @ ..] = bytes else {
-            return Err(Refusal::TraceLength);
-        };
+        let (first, rest) = self.rest.split_first().ok_or(Refusal::TraceLength)?;
         self.rest = rest;
         Ok(*first)
     }
@@ -22,12 +19,9 @@ impl<'t> Input<'t> {
     pub fn number(&mut self) -> Result<u16, Refusal>
         ensures { plain result self.new ≡ a_number (left self.old) }
     {
-        let bytes = self.rest;
-        let [high, low, rest @ ..] = bytes else {
-            return Err(Refusal::TraceLength);
-        };
+        let (bytes, rest) = self.rest.split_first_chunk().ok_or(Refusal::TraceLength)?;
         self.rest = rest;
-        Ok(u16::from_be_bytes([*high, *low]))
+        Ok(u16::from_be_bytes(*bytes))
     }
 
     /// A count or a length.
@@ -45,12 +39,8 @@ impl<'t> Input<'t> {
     pub fn piece(&mut self, n: usize) -> Result<&'t [u8], Refusal>
         ensures { told (λ x. x.now) result self.new ≡ a_piece n (left self.old) }
     {
-        let bytes = self.rest;
-        if n > bytes.len() {
-            return Err(Refusal::TraceLength);
-        }
-        let piece = &bytes[0..n];
-        self.rest = &bytes[n..];
+        let (piece, rest) = self.rest.split_at_checked(n).ok_or(Refusal::TraceLength)?;
+        self.rest = rest;
         Ok(piece)
     }
 

@@ -4,7 +4,8 @@ ghost use Rattle.trace.specs.Told.{left, told, plain, shown, met, gathered, high
 
 use crate::input::Input;
 use crate::records::Parsed;
-use model::{Command, Kind, Record, Refusal, Standing};
+use arrayvec::ArrayVec;
+use model::{Command, Record, Refusal, Standing};
 
 impl<'t> Input<'t> {
     /// A record, in a file of so many contents.
@@ -41,18 +42,11 @@ impl<'t> Input<'t> {
         requires { count ≤ 256 }
         ensures { plain result self.new ≡ gathered high_of (all_records contents count (left self.old)) }
     {
-        let none = Command {
-            kind: Kind::Copy,
-            a: 0,
-            b: 0,
-            c: 0,
-            d: 0,
-        };
-        let mut commands = [none; 256];
+        let mut commands = ArrayVec::<Command, 256>::new();
         let mut high = 0;
-        for i in 0..count {
-            let next = self.record(contents, &commands[0..i], high)?;
-            commands[i] = next.record.command;
+        for _ in 0..count {
+            let next = self.record(contents, commands.as_slice(), high)?;
+            commands.push(next.record.command);
             high = next.high;
         }
         Ok(high)

@@ -15,6 +15,7 @@ fn index_ok(contents: usize, high: u16, index: u16) -> bool
 }
 
 impl<'t> Input<'t> {
+    // Kept: how many contents there are and how high the indices have come are what the format's own definition takes.
     /// A file and an index.
     pub fn one_use(&mut self, contents: usize, high: u16) -> Result<Use, Refusal>
         ensures { plain result self.new ≡ a_use contents high (left self.old) }
@@ -34,8 +35,10 @@ impl<'t> Input<'t> {
         ensures high { IfOk result (λ u. u.high ≡ after higher high (used u)) }
         ensures few { IfOk result (λ u. u.count ≡ count) }
     {
-        let mut list = [Use { file: 0, number: 0 }; 16];
+        // Kept: the places that a record has, in a table that is copied.
+        let mut list = [Use::default(); 16];
         let mut top = high;
+        // Kept: each read is written to the place of its number; `iter_mut` would be no plainer.
         for i in 0..count {
             let u = self.one_use(contents, top)?;
             list[i] = u;

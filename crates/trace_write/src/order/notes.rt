@@ -1,51 +1,69 @@
-ghost use Rattle.std.specs.Prelude.{◌≡◌, ◌+◌, ◌≤◌, true, map, length};
-ghost use Rattle.std.specs.List.{AllByRecursion};
+ghost use Rattle.std.specs.Prelude.{◌≡◌, ◌<◌, ◌≤◌, ◌==◌, [], map, length, IfSome};
+ghost use Rattle.std.specs.List.{AllByRecursion, position_from};
 ghost use Rattle.model.specs.Records.{said};
 ghost use Rattle.trace.specs.Reads.{after};
-ghost use Rattle.trace_write.specs.Puts.{numbers_of, number_of_use};
+ghost use Rattle.trace_write.specs.Puts.{number_of_use};
 ghost use Rattle.trace_write.specs.Saves.{place as place_of, listed, numbers_in, order as order_in};
-ghost use Rattle.trace_write.specs.Rooms.{Number, Named, Room};
+ghost use Rattle.trace_write.specs.Rooms.{Number, Named};
 
 use crate::order::Order;
+use arrayvec::ArrayVec;
 use model::{Record, Use};
-use trace::reads_of;
 
-/// The place of a number in a list, counted from 1; one past the last where it is not there.
-pub fn place(list: &[u16], number: u16) -> usize
-    requires { length list.now ≤ 1024 }
-    ensures value { result ≡ place_of number list.now }
-    ensures within { result ≤ length list.now + 1 }
+/// Where a number stands first.
+fn first_at(list: &[u16], number: u16) -> Option<usize>
+    ensures value { result ≡ position_from (λ listed. number == listed) 0 list.now }
+    ensures within { IfSome result (λ at. at < length list.now) }
 {
-    for i in 0..list.len() {
-        if list[i] == number {
-            return i + 1;
-        }
-    }
-    list.len() + 1
+    list.iter().position(|listed| number == *listed)
 }
 
 impl Order {
+    /// No number is listed.
+    fn new() -> Order
+        ensures { result.numbers.items ≡ [] }
+    {
+        Order {
+            numbers: ArrayVec::new(),
+        }
+    }
+
+    /// The numbers.
+    pub fn numbers(&self) -> &[u16]
+        ensures value { result.now ≡ self.now.numbers.items }
+        ensures few { length result.now ≤ 1024 }
+    {
+        self.numbers.as_slice()
+    }
+
+    // Kept: no `Option`: a number that is not there has a place all the same, so that no caller owes a proof that it is.
+    /// The place of a number, counted from 1; one past the last where it is not there.
+    pub fn place(&self, number: u16) -> usize
+        ensures value { result ≡ place_of number self.now.numbers.items }
+        ensures within { result ≤ 1025 }
+    {
+        let numbers = self.numbers();
+        match first_at(numbers, number) {
+            Some(at) => at + 1,
+            None => numbers.len() + 1,
+        }
+    }
+
+    // Kept: past the last is where a number stands that is not there, as the definition of the order says it.
     /// Lists a number unless it is there.
     fn note(&mut self, number: u16)
-        requires room { Room self.old }
-        requires number { Number number }
-        ensures room { Room self.new }
-        ensures after { numbers_of self.new ≡ listed (numbers_of self.old) number }
+        requires { Number number }
+        ensures { self.new.numbers.items ≡ listed self.old.numbers.items number }
     {
-        let count = self.count;
-        let at = place(&self.list[0..count], number);
-        if at > count {
-            self.list[count] = number;
-            self.count = count + 1;
+        if self.place(number) > self.numbers.len() {
+            self.numbers.push(number);
         }
     }
 
     /// Lists the numbers of some uses.
     fn note_uses(&mut self, uses: &[Use])
-        requires room { Room self.old }
-        requires numbers { AllByRecursion (λ u. Number u.number) uses.now }
-        ensures room { Room self.new }
-        ensures after { numbers_of self.new ≡ after listed (numbers_of self.old) (map number_of_use uses.now) }
+        requires { AllByRecursion (λ u. Number u.number) uses.now }
+        ensures { self.new.numbers.items ≡ after listed self.old.numbers.items (map number_of_use uses.now) }
     {
         for u in uses {
             self.note(u.number);
@@ -54,12 +72,10 @@ impl Order {
 
     /// Lists the numbers of a record.
     fn note_record(&mut self, rec: &Record)
-        requires room { Room self.old }
-        requires numbers { Named rec.now }
-        ensures room { Room self.new }
-        ensures after { numbers_of self.new ≡ after listed (numbers_of self.old) (numbers_in (said rec.now)) }
+        requires { Named rec.now }
+        ensures { self.new.numbers.items ≡ after listed self.old.numbers.items (numbers_in (said rec.now)) }
     {
-        self.note_uses(reads_of(rec));
+        self.note_uses(rec.reads());
         self.note(rec.write.number);
     }
 }
@@ -67,13 +83,9 @@ impl Order {
 /// The numbers that some records name, in order of first use.
 pub fn order_of(records: &[Record]) -> Order
     requires { AllByRecursion Named records.now }
-    ensures room { Room result }
-    ensures value { numbers_of result ≡ order_in (map said records.now) }
+    ensures { result.numbers.items ≡ order_in (map said records.now) }
 {
-    let mut order = Order {
-        list: [0; 1024],
-        count: 0,
-    };
+    let mut order = Order::new();
     for r in records {
         order.note_record(r);
     }

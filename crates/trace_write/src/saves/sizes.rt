@@ -1,34 +1,40 @@
-ghost use Rattle.std.specs.Prelude.{◌≡◌, ◌≤◌, length};
-ghost use Rattle.std.specs.List.{flat_map};
+ghost use Rattle.std.specs.Prelude.{◌≡◌, ◌+◌, ◌*◌, ◌≤◌, length};
+ghost use Rattle.std.specs.List.{sum_by};
+ghost use Rattle.model.specs.Contents.{content};
+ghost use Rattle.model.specs.Records.{said};
 ghost use Rattle.pool.specs.Contents.{meant};
-ghost use Rattle.trace_write.specs.Puts.{content_of, record_of};
 
 use model::Record;
 use pool::Pool;
-use trace::reads_of;
 
-/// How many bytes the contents take.
-pub fn contents_size(pool: &Pool, numbers: &[u16]) -> usize
-    requires { length numbers.now ≤ 1024 }
-    ensures low { result ≤ 4196352 }
-    ensures value { result ≡ length (flat_map (content_of (meant pool.now)) numbers.now) }
+/// How many bytes a content takes.
+fn content_size(pool: &Pool, number: u16) -> usize
+    ensures value { result ≡ 2 + length (content (meant pool.now) number) }
+    ensures few { result ≤ 4098 }
 {
-    let mut sum = 0;
-    for n in numbers {
-        sum += 2 + pool.bytes(*n).len();
-    }
-    sum
+    2 + pool.bytes(number).len()
 }
 
-/// How many bytes the records take.
-pub fn records_size(numbers: &[u16], list: &[Record]) -> usize
-    requires { length list.now ≤ 256 }
-    ensures low { result ≤ 14592 }
-    ensures value { result ≡ length (flat_map (record_of numbers.now) list.now) }
+/// How many bytes a record takes.
+fn record_size(rec: &Record) -> usize
+    ensures value { result ≡ 9 + 3 * length (said rec.now).reads }
+    ensures few { result ≤ 57 }
 {
-    let mut sum = 0;
-    for r in list {
-        sum += 9 + 3 * reads_of(r).len();
-    }
-    sum
+    9 + 3 * rec.reads().len()
+}
+
+/// How many bytes the contents of some numbers take.
+pub fn contents_size(pool: &Pool, numbers: &[u16]) -> usize
+    requires { length numbers.now ≤ 1024 }
+    ensures { result ≡ sum_by (λ n. 2 + length (content (meant pool.now) n)) numbers.now }
+{
+    numbers.iter().map(|n| content_size(pool, *n)).sum()
+}
+
+/// How many bytes some records take.
+pub fn records_size(list: &[Record]) -> usize
+    requires { length list.now ≤ 256 }
+    ensures { result ≡ sum_by (λ r. 9 + 3 * length (said r).reads) list.now }
+{
+    list.iter().map(|r| record_size(r)).sum()
 }

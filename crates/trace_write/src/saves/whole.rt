@@ -1,74 +1,62 @@
-ghost use Rattle.std.specs.Prelude.{◌≡◌, ◌≤◌, map, length, take, IfOk, Ok};
+ghost use Rattle.std.specs.Prelude.{◌≡◌, map, length, take, IfOk, Ok};
 ghost use Rattle.model.specs.Records.{said};
+ghost use Rattle.output.specs.Writes.{Room, Writes};
 ghost use Rattle.pool.specs.Contents.{meant};
 ghost use Rattle.trace.specs.Format.{decoded, encoded};
-ghost use Rattle.trace_write.specs.Puts.{put, saved, after_save};
+ghost use Rattle.trace_write.specs.Puts.{saved, after_save};
 ghost use Rattle.trace_write.specs.Saves.{traced, to_save};
 
+// Kept throughout: pool, order and records are borrowed from three owners, and each function reads all three.
+
 use crate::chosen::choose;
-use crate::order::order_of;
+use crate::order::{Order, order_of};
 use crate::saves::pieces::put_number;
 use crate::saves::sections::{put_contents, put_records};
 use crate::saves::sizes::{contents_size, records_size};
+use arrayvec::ArrayVec;
 use model::{Record, Refusal};
+use output::Output;
 use pool::Pool;
 
 /// How many bytes the file takes that holds the contents of some numbers, and records that name them.
-fn trace_size(pool: &Pool, numbers: &[u16], list: &[Record]) -> usize
-    requires numbers { length numbers.now ≤ 1024 }
-    requires records { length list.now ≤ 256 }
-    ensures { result ≡ length (encoded (traced (meant pool.now) numbers.now (map said list.now))) }
+fn trace_size(pool: &Pool, order: &Order, list: &ArrayVec<Record, 256>) -> usize
+    ensures { result ≡ length (encoded (traced (meant pool.now) order.now.numbers.items (map said list.now.items))) }
 {
-    4 + contents_size(pool, numbers) + records_size(numbers, list)
+    let numbers = order.numbers();
+    let records = list.as_slice();
+    4 + contents_size(pool, numbers) + records_size(records)
 }
 
 /// Writes that file.
-fn write_trace(out: &mut [u8], pool: &Pool, numbers: &[u16], list: &[Record]) -> usize
-    requires numbers { length numbers.now ≤ 1024 }
-    requires records { length list.now ≤ 256 }
-    requires room { length (encoded (traced (meant pool.now) numbers.now (map said list.now))) ≤ length out.old }
-    ensures value { result ≡ length (encoded (traced (meant pool.now) numbers.now (map said list.now))) }
-    ensures bytes { out.new ≡ put 0 (encoded (traced (meant pool.now) numbers.now (map said list.now))) out.old }
+fn write_trace(out: &mut Output, pool: &Pool, order: &Order, list: &ArrayVec<Record, 256>)
+    requires { Room (length (encoded (traced (meant pool.now) order.now.numbers.items (map said list.now.items)))) out.old }
+    ensures { Writes (encoded (traced (meant pool.now) order.now.numbers.items (map said list.now.items))) out.old out.new }
 {
-    let first = put_number(out, 0, numbers.len() as u16);
-    let second = put_contents(out, first, pool, numbers);
-    let third = put_number(out, second, list.len() as u16);
-    put_records(out, third, numbers, list)
+    let numbers = order.numbers();
+    let records = list.as_slice();
+    put_number(out, numbers.len() as u16);
+    put_contents(out, pool, numbers);
+    put_number(out, records.len() as u16);
+    put_records(out, order, records);
 }
 
 /// Writes that file if there is room for it. The length is known before the first byte is written.
 fn put_trace(
     out: &mut [u8],
     pool: &Pool,
-    numbers: &[u16],
-    list: &[Record],
+    order: &Order,
+    list: &ArrayVec<Record, 256>,
 ) -> Result<usize, Refusal>
-    requires numbers { length numbers.now ≤ 1024 }
-    requires records { length list.now ≤ 256 }
-    ensures value { result ≡ saved (traced (meant pool.now) numbers.now (map said list.now)) out.old }
-    ensures bytes { out.new ≡ after_save (traced (meant pool.now) numbers.now (map said list.now)) out.old }
+    ensures value { result ≡ saved (traced (meant pool.now) order.now.numbers.items (map said list.now.items)) out.old }
+    ensures bytes { out.new ≡ after_save (traced (meant pool.now) order.now.numbers.items (map said list.now.items)) out.old }
 {
-    let size = trace_size(pool, numbers, list);
+    let size = trace_size(pool, order, list);
     if size > out.len() {
         return Err(Refusal::SaveBufferShort);
     }
-    Ok(write_trace(out, pool, numbers, list))
-}
-
-/// Chooses the records that are saved, lists their contents, and writes the file.
-fn save_chosen(out: &mut [u8], pool: &Pool, records: &[Record]) -> Result<usize, Refusal>
-    ensures value { result ≡ saved (to_save (meant pool.now) (map said records.now)) out.old }
-    ensures bytes { out.new ≡ after_save (to_save (meant pool.now) (map said records.now)) out.old }
-    ensures accepted { IfOk result (λ n. decoded (take n out.new) ≡ Ok (to_save (meant pool.now) (map said records.now))) }
-{
-    let chosen = choose(pool, records);
-    let list = chosen.list;
-    let count = chosen.count;
-    let kept = &list[0..count];
-    let order = order_of(kept);
-    let numbers = order.list;
-    let used = order.count;
-    put_trace(out, pool, &numbers[0..used], kept)
+    let mut file = Output::new(out);
+    write_trace(&mut file, pool, order, list);
+    Ok(file.len())
 }
 
 /// Writes a trace file to the start of a buffer and returns its length: the records that are not struck and whose
@@ -80,5 +68,7 @@ pub fn save(out: &mut [u8], pool: &Pool, records: &[Record]) -> Result<usize, Re
     ensures bytes { out.new ≡ after_save (to_save (meant pool.now) (map said records.now)) out.old }
     ensures accepted { IfOk result (λ n. decoded (take n out.new) ≡ Ok (to_save (meant pool.now) (map said records.now))) }
 {
-    save_chosen(out, pool, records)
+    let kept = choose(pool, records);
+    let order = order_of(&kept);
+    put_trace(out, pool, &order, &kept)
 }

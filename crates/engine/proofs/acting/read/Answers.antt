@@ -3,7 +3,7 @@ use Rattle.std.proofs.Common.{ap, ◌∙◌}
 use Rattle.lists.specs.Held.{held}
 use Rattle.model.specs.Contents.{known}
 use Rattle.pool.specs.Contents.{meant}
-use Rattle.engine.proofs.Turns.{read_bad, read_goes}
+use Rattle.engine.proofs.Turns.{unmet, read_bad, read_goes}
 use Rattle.engine.proofs.acting.read.Goals as goal
 
 pub returns-in-Bad : goal.returns-in-Bad
@@ -12,16 +12,16 @@ returns-in-Bad g c =
     record {
       outcome =
           read_bad c.args.command c.args.line c.args.file c.known-number.result (g.F.FileStore.map c.args.files.now) p (held c.args.entries.now) (held c.note.new.entries) c.as_slice.result.now
-          (c.known-number.ensures ∙ ap (known p) c.tell.ensures) c.in_default.ensures.hazard c.note.ensures.held c.as_slice.ensures c.if-number-eq0.false c.in-Bad.ensures;
+          (c.known-number.ensures ∙ ap (known p) c.tell.ensures) (unmet c.args.line _ _ c.in_ok-note.ensures.hazard) c.note.ensures.held c.as_slice.ensures c.if-number-eq0.false c.in-Bad.ensures;
       room = c.note.ensures.room;
     }
 
-pub returns-in_default-next_of : goal.returns-in_default-next_of
-returns-in_default-next_of g c =
+pub returns-in_default : goal.returns-in_default
+returns-in_default g c =
     let p = meant c.args.pool.now in
     record {
       outcome =
           read_goes c.args.command c.args.line c.args.file c.known-number.result (g.F.FileStore.map c.args.files.now) p (held c.args.entries.now) (held c.note.new.entries) c.as_slice.result.now
-          (c.known-number.ensures ∙ ap (known p) c.tell.ensures) c.in_default.ensures.hazard c.note.ensures.held c.as_slice.ensures c.if-number-eq0.false c.next_of.result c.in_default-next_of.not-Bad c.next_of.ensures;
+          (c.known-number.ensures ∙ ap (known p) c.tell.ensures) (unmet c.args.line _ _ c.in_ok-note.ensures.hazard) c.note.ensures.held c.as_slice.ensures c.if-number-eq0.false c.next_of.result c.in_default.not-Bad c.next_of.ensures;
       room = c.note.ensures.room;
     }

@@ -10,12 +10,12 @@ use Rattle.files.proofs.codec.is_laid.Goals as goal
 pub returns : goal.returns
 returns c =
     let image = c.args.image in
-    let again = c.encoded-again.result in
-    let canonical : again ≡ layout (mapped image) = c.encoded-again.ensures.value ∙ ap layout c.decoded.ensures in
+    let again = c.encoded.result in
+    let canonical : again ≡ layout (mapped image) = c.encoded.ensures.value ∙ ap layout c.decoded.ensures in
     let same = slice_eq-Decides Decides-eqb again image c.eq.result c.eq.ensures in
     let Low : List ℕ → Type 0 = λ bs. (k : ℕ) → get_or (mapped bs) k 0 < 65536 in
     let low : (k : ℕ) → get_or image k 0 < 256 = λ k. search rules in
-    let lawful : (t : c.eq.result ≡ true) → Map (mapped image) = λ t. record { long = mapped_long image; fits = subst Low (same.0 t) c.encoded-again.ensures.fits } in
+    let lawful : (t : c.eq.result ≡ true) → Map (mapped image) = λ t. record { long = mapped_long image; fits = subst Low (same.0 t) c.encoded.ensures.fits } in
     record {
       value =
           same_from_decides c.eq.result _ (Decides-like c.eq.result (λ h. sym h ∙ canonical) (λ h. canonical ∙ sym h) same) (bytes_eq-Decides image (layout (mapped image)));

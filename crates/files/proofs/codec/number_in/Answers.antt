@@ -1,27 +1,22 @@
--- The walk through the entries answers what the image gives the file.
-use Rattle.std.proofs.Common.{◌≡◌, length, arith, rules}
+-- The first entry of the file tells what the image gives it.
+use Rattle.std.proofs.Common.{◌≡◌, ◌<◌, length, sym, ap, ◌∙◌, arith, rules}
 use Rattle.files.specs.Trips.{mapped_past}
-use Rattle.files.proofs.Walks.{walk_none, walk_more, walk_found, walk_all}
+use Rattle.files.proofs.Walks.{number_of, found_is}
 use Rattle.files.proofs.codec.number_in.Goals as goal
 
 pub returns-then-file-ge64 : goal.returns-then-file-ge64
 returns-then-file-ge64 c = mapped_past c.args.bytes.now c.args.file c.if-file-ge64.true
 
-pub loop-i-init : goal.loop-i-init
-loop-i-init c = walk_none c.args.bytes.now c.args.file c.min-count.result
-
-pub loop-i-preserved : goal.loop-i-preserved
-loop-i-preserved c =
+pub returns-in-Some : goal.returns-in-Some
+returns-in-Some c =
     let long : length c.args.bytes.now ≡ 193 = search rules in
-    walk_more c.args.bytes.now c.args.file c.min-count.result c.loop-i.i long c.loop-i-test.true (omega (arith, c.min-count.ensures))
-    c.if-bytes-at.false c.loop-i.invariant
+    let low : c.args.file < 64 = omega (arith, c.if-file-ge64.false) in
+    let is = found_is c.args.file c.min-count.result c.args.bytes.now _ _ long low c.min-count.ensures c.as_chunks.ensures.front c.entry_of.ensures in
+    c.from_be_bytes.ensures ∙ ap number_of (sym c.in-Some.is) ∙ is
 
-pub returns-then-bytes-at : goal.returns-then-bytes-at
-returns-then-bytes-at c =
+pub returns-in-None : goal.returns-in-None
+returns-in-None c =
     let long : length c.args.bytes.now ≡ 193 = search rules in
-    walk_found c.args.bytes.now c.args.file c.min-count.result c.loop-i.i c.from_be_bytes.result long c.if-file-ge64.false c.min-count.ensures
-    c.loop-i-test.true c.if-bytes-at.true c.from_be_bytes.ensures c.loop-i.invariant
-
-pub returns : goal.returns
-returns c =
-    walk_all c.args.bytes.now c.args.file c.min-count.result c.loop-i.i c.if-file-ge64.false c.min-count.ensures c.loop-i-test.false c.loop-i.invariant
+    let low : c.args.file < 64 = omega (arith, c.if-file-ge64.false) in
+    let is = found_is c.args.file c.min-count.result c.args.bytes.now _ _ long low c.min-count.ensures c.as_chunks.ensures.front c.entry_of.ensures in
+    ap number_of (sym c.in-None.is) ∙ is

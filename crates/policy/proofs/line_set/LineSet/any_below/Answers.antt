@@ -1,16 +1,10 @@
 -- Some line below is in the set, or none.
-use Rattle.std.proofs.Common.{◌≡◌, sym, ap, ◌∙◌, arith}
-use Rattle.policy.specs.Lines.{has, some_below}
-use Rattle.policy.proofs.Lines.{some_from, some_more}
+use Rattle.std.proofs.Common.{refl, rules, arith}
+use Rattle.std.proofs.lemmas.Iterator.{YieldsList-from_range}
+use Rattle.std.proofs.lemmas.Iterator.Search.{any_from_yields_List}
+use borrow.Author.Tests.{tests}
+use Rattle.policy.specs.Lines.{has}
 use Rattle.policy.proofs.line_set.LineSet.any_below.Goals as goal
 
-pub returns-then-has : goal.returns-then-has
-returns-then-has c = sym (some_from (has c.args.self.now) c.args.line c.loop-lower.lower (omega arith) (sym c.if-has.ensures))
-
-pub loop-lower-preserved : goal.loop-lower-preserved
-loop-lower-preserved c = some_more (has c.args.self.now) c.loop-lower.lower c.loop-lower.invariant (sym c.if-has.ensures)
-
 pub returns : goal.returns
-returns c =
-    let e : c.loop-lower.lower ≡ c.args.line = omega arith in
-    sym c.loop-lower.invariant ∙ ap (some_below (has c.args.self.now)) e
+returns c = any_from_yields_List (has c.args.self.now) _ _ _ c.any.ensures.ran (YieldsList-from_range 0 c.args.line c.args.line refl (omega arith)) (λ x b q k. search (rules, tests))

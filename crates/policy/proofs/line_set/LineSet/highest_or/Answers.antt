@@ -1,14 +1,14 @@
--- The highest line, one line on.
-use Rattle.std.proofs.Common.{◌≡◌, ap, ◌∙◌, arith}
-use Rattle.policy.specs.Lines.{has, highest}
-use Rattle.policy.proofs.Lines.{highest_none, highest_more}
+-- The highest line is the first that is found from above.
+use Rattle.std.proofs.Common.{◌∙◌, rules}
+use Rattle.std.proofs.lemmas.Iterator.Search.{find_from_yields_List}
+use borrow.Author.Tests.{tests}
+use Rattle.policy.specs.Lines.{has}
+use Rattle.policy.proofs.Above.{highest_found, from_above}
 use Rattle.policy.proofs.line_set.LineSet.highest_or.Goals as goal
 
-pub loop-line-init : goal.loop-line-init
-loop-line-init c = highest_none (has c.args.self.now) c.args.default
-
-pub loop-line-preserved : goal.loop-line-preserved
-loop-line-preserved c = highest_more (has c.args.self.now) c.loop-line.line c.args.default c.loop-line.best c.higher-best.result c.loop-line.invariant c.higher-best.ensures
-
 pub returns : goal.returns
-returns c = let e : c.loop-line.line ≡ 64 = omega arith in c.loop-line.invariant ∙ ap (λ n. highest (has c.args.self.now) n c.args.default) e
+returns c =
+    let test = has c.args.self.now in
+    c.unwrap_or.ensures
+    ∙ highest_found test 64 c.args.default c.find.result
+    (find_from_yields_List test _ _ c.find.result c.find.ensures.ran (from_above 64 c.rev.result c.rev.ensures.source) (λ x b q k. search (rules, tests)))

@@ -1,20 +1,14 @@
 -- The table tells who waits on whom.
-use Rattle.std.proofs.Common.{map, refl, ◌∙◌, arith, length-set}
+use Rattle.std.proofs.Common.{◌≡◌, map, false, rules, arith}
 use Rattle.model.specs.Records.{said}
-use Rattle.policy.proofs.Waiting.{filled, table_tells}
+use Rattle.policy.specs.Waiting.{waits_at}
+use Rattle.policy.proofs.Filling.{filled}
+use Rattle.policy.proofs.Waiting.{table_tells}
 use Rattle.policy.proofs.waits.Waits.new.Goals as goal
-
-pub loop-at-init : goal.loop-at-init
-loop-at-init c = (refl, λ k h. absurd (omega arith))
-
-pub loop-at-preserved : goal.loop-at-preserved
-loop-at-preserved c =
-    let table = c.loop-at.table in
-    let at = c.loop-at.at in (
-      length-set table at c.waits_at.result ∙ c.loop-at.invariant.0,
-      filled c.found_all-all.result table at c.waits_at.result (omega (arith, c.loop-at.invariant.0)) c.loop-at.invariant.1 c.waits_at.ensures,
-    )
 
 pub returns : goal.returns
 returns c =
-    table_tells c.args.commands.now (map said c.args.records.now) c.found_all-all.result c.loop-at.table c.found_all-all.ensures.each (λ k h. c.loop-at.invariant.1 k (omega arith))
+    let all = c.found_all-all.result in
+    let table = c.from_fn.result in
+    table_tells c.args.commands.now (map said c.args.records.now) all table c.found_all-all.ensures.each
+    (λ k h. filled _ table (λ k b. b ≡ waits_at all k) (λ x y q e. search rules) 0 4096 c.from_fn.ensures.items.each k (omega arith) h false)

@@ -1,21 +1,12 @@
--- One more line has what it finds.
-use Rattle.std.proofs.Common.{map, refl, ◌∙◌, arith, length-set}
+-- Each line has what it finds.
+use Rattle.std.proofs.Common.{◌≡◌, map, None, rules, arith}
+use Rattle.std.specs.Option.{option_map}
 use Rattle.model.specs.Records.{said}
 use Rattle.policy.specs.Waiting.{finds}
-use Rattle.policy.proofs.Waiting.{found_more}
+use Rattle.policy.proofs.Filling.{filled}
 use Rattle.policy.proofs.waits.methods.found_all.Goals as goal
 
-pub loop-line-init : goal.loop-line-init
-loop-line-init c = (refl, λ k h. absurd (omega arith))
-
-pub loop-line-preserved : goal.loop-line-preserved
-loop-line-preserved c =
-    let all = c.loop-line.all in
-    let i = c.loop-line.line in
-    let x = c.found.result in (
-      length-set all i x ∙ c.loop-line.invariant.0,
-      found_more (finds c.args.commands.now (map said c.args.records.now)) all i x (omega (arith, c.loop-line.invariant.0)) c.loop-line.invariant.1 c.found.ensures,
-    )
-
-pub returns : goal.returns
-returns c = record { long = c.loop-line.invariant.0; each = λ k h. c.loop-line.invariant.1 k (omega arith) }
+pub returns-clause-each : goal.returns-clause-each
+returns-clause-each c = λ k h.
+    let finds_it = finds c.args.commands.now (map said c.args.records.now) in
+    filled _ c.from_fn.result (λ k x. option_map said x ≡ finds_it k) (λ x y q e. search rules) 0 64 c.from_fn.ensures.items.each k (omega arith) h None

@@ -9,5 +9,5 @@ pub returns : goal.returns
 returns c =
     let self = c.args.self.now in
     let patience = self.policy.patience in
-    let line : c.ask.result ≡ c.args.front = last_run_front (waits self.policy.waits) self.waiting (has c.args.among.now) c.args.front patience.limit patience.passes c.ask.result c.ask.ensures.line in
+    let line : c.ask.result ≡ c.args.front = last_run_front (waits self.policy.choice) self.waiting (has c.args.among.now) c.args.front patience.limit patience.passes c.ask.result c.ask.ensures.line in
     record { answers = search rules; same = refl; line = line }

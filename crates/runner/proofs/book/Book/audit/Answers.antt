@@ -1,8 +1,9 @@
 -- Refused while a run is open or where no record is; else one standing is changed.
-use Rattle.std.proofs.Common.{map, refl, ap, ◌∙◌}
-use Rattle.lists.specs.Altered.{altered}
+use Rattle.std.proofs.Common.{◌≡◌, map, set, Some, None, Err, sym, refl, ap, ◌∙◌, rules}
+use Rattle.std.specs.List.{slice_get}
 use Rattle.lists.specs.Held.{held, room}
 use Rattle.model.specs.Records.{said}
+use Rattle.model.specs.declared.refusal.Refusal.TheVariants.{NoSuchRecord}
 use Rattle.pool.specs.Contents.{meant}
 use Rattle.runner.specs.Standings.{stands_as}
 use Rattle.runner.specs.Views.{world_of}
@@ -12,13 +13,23 @@ use Rattle.runner.proofs.book.Book.audit.Goals as goal
 pub returns-then-is_open : goal.returns-then-is_open
 returns-then-is_open c = λ fs. open_now c.args.at _ _ c.if-is_open.ensures refl
 
-pub returns-in_default : goal.returns-in_default
-returns-in_default c = λ fs. no_record c.args.at _ _ c.if-is_open.ensures (held c.args.self.now.list) refl c.in_default.ensures refl
+pub returns-in_err-candidate : goal.returns-in_err-candidate
+returns-in_err-candidate c = λ fs.
+    let gone : c.get.result ≡ None = search rules in
+    let told : c.from_residual.result ≡ Err NoSuchRecord = search rules in
+    rw told (no_record c.args.at _ _ c.if-is_open.ensures (held c.args.self.now.list) refl (sym gone ∙ c.get.ensures) refl)
 
 pub returns : goal.returns
 returns c = λ fs.
     let b = c.args.self.now in
     let p = meant c.args.pool.now in
     let i = c.args.log.now.inner in
-    judges c.args.at _ _ c.if-is_open.ensures (held b.list) refl c.in-Some.candidate c.finding-standing.result c.in-Some.ensures c.finding-standing.ensures
-    (ap (λ xs. world_of fs p i (map said xs) (room c.change.new.self)) c.change.ensures.held ∙ ap (world_of fs p i (map said (altered (stands_as c.finding-standing.result) (held b.list) c.args.at))) c.change.ensures.room)
+    let x = c.in_ok-candidate.candidate in
+    let s = c.finding-standing.result in
+    let found : Some x ≡ slice_get (held b.list) c.args.at = search rules in
+    let changed = rw (sym found) at c.change.ensures.held in
+    let made : changed.1.left.now ≡ stands_as s changed.1.shown.now = search (rules, changed.1.met) in
+    let is : changed.0 ≡ stands_as s x = sym changed.1.leaves ∙ made ∙ ap (stands_as s) changed.1.shows in
+    let held_now : held c.change.new.self ≡ set (held b.list) c.args.at (stands_as s x) = changed.2 ∙ ap (set (held b.list) c.args.at) is in
+    judges c.args.at _ _ c.if-is_open.ensures (held b.list) refl x s found c.finding-standing.ensures
+    (ap (λ xs. world_of fs p i (map said xs) (room c.change.new.self)) held_now ∙ ap (world_of fs p i (map said (set (held b.list) c.args.at (stands_as s x)))) c.change.ensures.room)

@@ -1,6 +1,8 @@
 -- The policy is asked of the lines that are left, and the line that it answers is worked on; before that the step can be refused.
-use Rattle.std.proofs.Common.{sym, refl}
-use Rattle.policy.specs.Lines.{has}
+use Rattle.std.proofs.Common.{◌≡◌, Some, None, Err, sym, refl, rules}
+use Rattle.model.specs.declared.answers.StepRefusal.TheVariants.{By}
+use Rattle.model.specs.declared.refusal.Refusal.TheVariants.{LinesEnded}
+use Rattle.policy.specs.Lines.{has, Lowest}
 use Rattle.runner.proofs.Asks.{refused_by, blank, shut, stopped, over, worked}
 use Rattle.runner.proofs.log.Log.advance.Goals as goal
 
@@ -19,20 +21,23 @@ returns-in-Some-stop g c =
       unasked = refl;
     }
 
-pub returns-in_default-lowest : goal.returns-in_default-lowest
-returns-in_default-lowest g c =
+pub returns-in_err-front : goal.returns-in_err-front
+returns-in_err-front g c =
+    let told : c.from_residual.result ≡ Err (By LinesEnded) = search rules in
+    let none : Lowest (has c.left-left.result) None = search rules in
     record {
-      promise = refused_by _ _ _ _ (over _ _ (sym c.in_default.ensures) (sym c.if-not-is_open.ensures) (sym c.in_default-stop.ensures) (has c.left-left.result) c.left-left.ensures c.in_default-lowest.ensures) refl;
+      promise = rw told (refused_by _ _ _ _ (over _ _ (sym c.in_default.ensures) (sym c.if-not-is_open.ensures) (sym c.in_default-stop.ensures) (has c.left-left.result) c.left-left.ensures none) refl);
       same = refl;
-      unasked = refl;
+      unasked = rw told refl;
     }
 
 pub returns : goal.returns
 returns g c =
+    let lowest : Lowest (has c.left-left.result) (Some c.in_ok-front.front) = search rules in
     record {
       promise =
           worked _ _ (sym c.in_default.ensures) (sym c.if-not-is_open.ensures) (sym c.in_default-stop.ensures) (has c.left-left.result) c.left-left.ensures
-          _ c.in-Some-lowest.front c.ask-line.result c.work.result _ c.in-Some-lowest.ensures c.ask-line.ensures.answers c.work.ensures.line c.work.ensures.skipped c.work.ensures.stop c.work.ensures.world;
+          _ c.in_ok-front.front c.ask-line.result c.work.result _ lowest c.ask-line.ensures.answers c.work.ensures.line c.work.ensures.skipped c.work.ensures.stop c.work.ensures.world;
       same = c.ask-line.ensures.same;
       unasked = tt;
     }

@@ -1,21 +1,19 @@
 -- The commands stand at the start of 64 places, and the files are copied.
-use Rattle.std.proofs.Common.{List, replicate, refl}
-use Rattle.model.specs.declared.command.Command.{Command}
-use Rattle.model.specs.declared.command.Kind.TheVariants.{Copy}
+use Rattle.std.proofs.Common.{length, replicate, refl, ap, ◌∙◌}
 use Rattle.runner.proofs.Opens.{length_copied, take_copied, same_notes}
 use Rattle.runner.proofs.run.Run.begun.Goals as goal
 
-abbrev blank : List Command
-blank = replicate 64 (record { kind = Copy; a = 0; b = 0; c = 0; d = 0 })
-
 pub invariant_of-result : goal.invariant_of-result
 invariant_of-result g c =
-    record { long = length_copied blank c.copy_from_slice.new.self c.args.commands.now c.copy_from_slice.ensures.after c.requires; wide = refl; few = c.requires }
+    let few = c.commands-commands.ensures.few in
+    record { long = length_copied (replicate 64 c.default-copied.result) c.copy_from_slice.new.self c.commands-commands.result.now c.copy_from_slice.ensures.after few; wide = refl; few = few }
 
 pub returns : goal.returns
 returns g c =
+    let is = c.commands-commands.ensures.value in
     record {
-      notes = same_notes _ _ _ _ c.args.count (take_copied c.copy_from_slice.new.self c.args.commands.now _ c.copy_from_slice.ensures.after) c.copy_all.ensures;
+      notes = same_notes _ _ _ _ c.args.count (take_copied c.copy_from_slice.new.self c.commands-commands.result.now _ c.copy_from_slice.ensures.after ∙ is) c.copy_all.ensures;
       opened = refl;
-      lines = refl;
+      lines = ap length is;
+      few = rw is at c.commands-commands.ensures.few;
     }

@@ -4,6 +4,6 @@ use Rattle.trace.proofs.input.Input.records.Given as goal
 use Rattle.trace.specs.Format.{all_records}
 use Rattle.trace.specs.Told.{left, gathered, high_of}
 
-abbrev pub invariant-loop-i : goal.invariant-loop-i
-invariant-loop-i l =
-    Rest (gathered high_of (all_records l.contents l.count (left l.initial.self))) l.contents l.count l.commands l.high l.i (left l.self)
+abbrev pub invariant-loop : goal.invariant-loop
+invariant-loop l =
+    Rest (gathered high_of (all_records l.contents l.count (left l.initial.self))) l.contents l.count l.commands.items l.high l.counter (left l.self)

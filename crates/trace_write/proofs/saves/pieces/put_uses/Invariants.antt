@@ -1,7 +1,9 @@
--- What is left to write gives the slice.
-use Rattle.trace_write.proofs.Writes.{Left}
-use Rattle.trace_write.proofs.saves.pieces.put_uses.Given as goal
+-- The uses so far are written.
+use Rattle.std.proofs.Common.{take}
+use Rattle.std.specs.List.{flat_map}
+use Rattle.output.specs.Writes.{Writes}
 use Rattle.trace_write.specs.Puts.{use_of}
+use Rattle.trace_write.proofs.saves.pieces.put_uses.Given as goal
 
 abbrev pub invariant-loop-u : goal.invariant-loop-u
-invariant-loop-u l = Left (use_of l.numbers) l.list l.start l.initial.out l.u-index l.at l.out
+invariant-loop-u l = Writes (flat_map (use_of l.order.numbers.items) (take l.u-index l.list)) l.initial.out l.out

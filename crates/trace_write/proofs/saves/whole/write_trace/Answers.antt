@@ -1,40 +1,43 @@
 -- Four writes give the file.
-use Rattle.std.proofs.Common.{arith}
+use Rattle.std.proofs.Common.{length, ap, arith}
+use Rattle.std.specs.List.{flat_map}
+use Rattle.output.proofs.Steps.{then, as_bytes}
 use Rattle.pool.specs.Contents.{meant}
-use Rattle.trace_write.proofs.Outputs.{encoded_size, four_writes}
+use Rattle.trace.specs.Reads.{two_bytes}
+use Rattle.trace_write.proofs.Outputs.{encoded_is, encoded_size}
+use Rattle.trace_write.specs.Puts.{content_of, record_of}
 use Rattle.trace_write.proofs.saves.whole.write_trace.Goals as goal
 
-pub put_number-first-requires : goal.put_number-first-requires
-put_number-first-requires c = let s = encoded_size (meant c.args.pool.now) c.args.numbers.now c.args.list.now in omega (arith, c.requires.room)
+pub put_contents-requires : goal.put_contents-requires
+put_contents-requires c =
+    let p = meant c.args.pool.now in
+    let s = encoded_size p c.args.order.now.numbers.items c.args.list.now.items in
+    let a = ap (λ ns. length (flat_map (content_of p) ns)) c.numbers-numbers.ensures.value in
+    omega arith
 
-pub put_contents-second-requires : goal.put_contents-second-requires
-put_contents-second-requires c =
-    let s = encoded_size (meant c.args.pool.now) c.args.numbers.now c.args.list.now in omega (arith, c.requires.room, c.put_number-first.ensures.end)
-
-pub put_number-third-requires : goal.put_number-third-requires
-put_number-third-requires c =
-    let s = encoded_size (meant c.args.pool.now) c.args.numbers.now c.args.list.now in
-    omega (arith, c.requires.room, c.put_number-first.ensures.end, c.put_contents-second.ensures.end)
+pub put_number-requires-2 : goal.put_number-requires-2
+put_number-requires-2 c =
+    let p = meant c.args.pool.now in
+    let s = encoded_size p c.args.order.now.numbers.items c.args.list.now.items in
+    let a = ap (λ ns. length (flat_map (content_of p) ns)) c.numbers-numbers.ensures.value in
+    omega arith
 
 pub put_records-requires : goal.put_records-requires
 put_records-requires c =
-    let s = encoded_size (meant c.args.pool.now) c.args.numbers.now c.args.list.now in
-    record { few = c.requires.numbers; room = omega (arith, c.requires.room, c.put_number-first.ensures.end, c.put_contents-second.ensures.end, c.put_number-third.ensures.end) }
+    let p = meant c.args.pool.now in
+    let ns = c.args.order.now.numbers.items in
+    let s = encoded_size p ns c.args.list.now.items in
+    let a = ap (λ ms. length (flat_map (content_of p) ms)) c.numbers-numbers.ensures.value in
+    let b = ap (λ rs. length (flat_map (record_of ns) rs)) c.as_slice-records.ensures.value in
+    omega arith
 
 pub returns : goal.returns
 returns c =
     let p = meant c.args.pool.now in
-    let ns = c.args.numbers.now in
-    let rs = c.args.list.now in
-    let s = encoded_size p ns rs in
-    let a = c.put_number-first.ensures in
-    let b = c.put_contents-second.ensures in
-    let d = c.put_number-third.ensures in
-    let e = c.put_records.ensures in
-    record {
-      value = omega (arith, a.end, b.end, d.end, e.end);
-      bytes =
-          four_writes p ns rs c.args.out.now c.put_number-first.result c.put_contents-second.result c.put_number-third.result
-          c.put_number-first.new.out c.put_contents-second.new.out c.put_number-third.new.out c.put_records.new.out
-          (omega (arith, c.requires.room)) a.bytes a.end b.bytes b.end d.bytes d.end e.bytes;
-    }
+    let ns = c.args.order.now.numbers.items in
+    let rs = c.args.list.now.items in
+    let one = as_bytes (two_bytes (length ns)) (ap (λ ms. two_bytes (length ms)) c.numbers-numbers.ensures.value) c.put_number.ensures in
+    let two = as_bytes (flat_map (content_of p) ns) (ap (flat_map (content_of p)) c.numbers-numbers.ensures.value) c.put_contents.ensures in
+    let three = as_bytes (two_bytes (length rs)) (ap (λ ss. two_bytes (length ss)) c.as_slice-records.ensures.value) c.put_number-2.ensures in
+    let four = as_bytes (flat_map (record_of ns) rs) (ap (flat_map (record_of ns)) c.as_slice-records.ensures.value) c.put_records.ensures in
+    as_bytes _ (encoded_is p ns rs) (then (then (then one two) three) four)

@@ -1,0 +1,61 @@
+-- One place more, right behind the others, and its bytes: one content more.
+use Rattle.std.proofs.Common.{◌+◌, ◌-◌, ◌<◌, length, sym, ap, ◌∙◌, subst, arith, rules}
+use Rattle.pool.specs.Contents.{meant, held}
+use Rattle.pool.specs.Sound.{Apart}
+use Rattle.pool.proofs.Adds.{short_added, pieces_kept, pieces_added, copied_front, copied_piece, packed_added, filled_added, apart_added}
+use Rattle.pool.proofs.Places.{inside, count_held, all_bytes, all_places}
+use Rattle.pool.proofs.Puts.{fitting, put_fresh, given_fresh}
+use Rattle.pool.proofs.holder.Pool.append.Goals as goal
+
+pub slice_bounds-copy_from_slice-end : goal.slice_bounds-copy_from_slice-end
+slice_bounds-copy_from_slice-end c = let f = (fitting c.args.self.now c.args.content.now c.requires.fits).bytes in search rules
+
+pub invariant_of-self : goal.invariant_of-self
+invariant_of-self c =
+    let p = c.args.self.now in
+    let x = c.args.content.now in
+    let same = pieces_kept p.bytes.now _ p.used p.count p.places.now (all_places p) (inside p) (copied_front p.bytes.now c.copy_from_slice.new.self p.used (p.used + length x - p.used) (all_bytes p)) in
+    record {
+      bytes_fit = search rules;
+      places_fit = p.places_fit;
+      packed = p.packed;
+      filled = p.filled;
+      short = p.short;
+      apart = subst Apart (sym same) p.apart;
+    }
+
+pub invariant_of-self-2 : goal.invariant_of-self-2
+invariant_of-self-2 c =
+    let p = c.args.self.now in
+    let x = c.args.content.now in
+    let f = fitting p x c.requires.fits in
+    let place : p.count < length p.places.now = omega (arith, f.place) in
+    let fit = all_bytes p in
+    let more =
+    pieces_added p.bytes.now _ x p.used p.count p.places.now place (inside p)
+    (copied_front p.bytes.now c.copy_from_slice.new.self p.used (p.used + length x - p.used) fit)
+    (copied_piece p.bytes.now c.copy_from_slice.new.self x p.used fit c.copy_from_slice.ensures.after) in
+    record {
+      bytes_fit = let h = f.bytes in search rules;
+      places_fit = let h = f.place in search rules;
+      packed = packed_added p.used (length x) p.count p.places.now place p.filled p.packed;
+      filled = filled_added p.used (length x) p.count p.places.now place p.filled;
+      short = short_added p.used (length x) p.count p.places.now place p.short f.short;
+      apart = apart_added (held p) _ x c.requires.fresh more p.apart;
+    }
+
+pub returns : goal.returns
+returns c =
+    let p = c.args.self.now in
+    let x = c.args.content.now in
+    let f = fitting p x c.requires.fits in
+    let place : p.count < length p.places.now = omega (arith, f.place) in
+    let fit = all_bytes p in
+    let more =
+    pieces_added p.bytes.now _ x p.used p.count p.places.now place (inside p)
+    (copied_front p.bytes.now c.copy_from_slice.new.self p.used (p.used + length x - p.used) fit)
+    (copied_piece p.bytes.now c.copy_from_slice.new.self x p.used fit c.copy_from_slice.ensures.after) in
+    record {
+      after = put_fresh (meant p) _ x c.requires.fresh c.requires.fits more (search rules) (search rules);
+      number = ap (λ n. n + 1) (count_held p) ∙ given_fresh (meant p) x c.requires.fresh c.requires.fits;
+    }

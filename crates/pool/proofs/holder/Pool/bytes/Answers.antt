@@ -1,0 +1,12 @@
+-- Every content is short.
+use Rattle.std.proofs.Common.{◌≡◌, ◌-◌, length, ap, arith, rules}
+use Rattle.model.specs.Contents.{content}
+use Rattle.pool.specs.Contents.{meant}
+use Rattle.pool.proofs.Sounds.{short_held}
+use Rattle.pool.proofs.holder.Pool.bytes.Goals as goal
+
+pub returns-in-Some : goal.returns-in-Some
+returns-in-Some c =
+    let p = c.args.self.now in
+    let value : c.in-Some.content.bytes.now ≡ content (meant p) c.args.number = search rules in
+    record { value = value; short = omega (arith, ap length value, short_held p (c.args.number - 1)) }

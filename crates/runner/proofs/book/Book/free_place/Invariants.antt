@@ -1,9 +1,0 @@
--- What is left of the records gives the place.
-use Rattle.std.proofs.Common.{map}
-use Rattle.model.specs.Records.{said}
-use Rattle.runner.specs.Places.{free_place}
-use Rattle.runner.proofs.Places.{Sought}
-use Rattle.runner.proofs.book.Book.free_place.Given as goal
-
-abbrev pub invariant-loop-at : goal.invariant-loop-at
-invariant-loop-at l = Sought (λ rs. free_place l.commands (map said rs)) l.list l.at

@@ -1,6 +1,0 @@
--- The lines before have given their records.
-use Rattle.runs.proofs.Gives.{Given}
-use Rattle.runs.proofs.log.Inner.give_records.Given as goal
-
-abbrev pub invariant-loop-line : goal.invariant-loop-line
-invariant-loop-line l = Given l.commands l.entries l.initial.book l.book l.line

@@ -1,6 +1,0 @@
--- The lines below the count, without the ended ones among those that the loop has passed.
-use Rattle.runs.proofs.Left.{Sofar}
-use Rattle.runs.proofs.log.Inner.left.Given as goal
-
-abbrev pub invariant-loop-line : goal.invariant-loop-line
-invariant-loop-line l = Sofar l.self.run.lines l.self.run.states l.line l.set

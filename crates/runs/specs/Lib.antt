@@ -1,5 +1,0 @@
-pub mod States
-pub mod Ends
-pub mod Inner
-pub mod Places
-pub mod Views
