@@ -1,6 +1,5 @@
 -- A turn writes the line of its file; after 64 of them all are written.
-use Rattle.std.proofs.Common.{◌+◌, take, ap, arith}
-use Rattle.std.proofs.lemmas.List.{take_all}
+use Rattle.std.proofs.Common.{◌+◌, take, arith}
 use Rattle.output.proofs.Steps.{then, as_bytes}
 use Rattle.pool.specs.Contents.{meant}
 use Rattle.script.specs.Scripts.{meaning}
@@ -19,14 +18,3 @@ loop-file-preserved g c =
       as_bytes (file_lines labels pool 0 (take (file + 1) numbers)) (lines_more labels pool numbers file (omega arith)) (then inv.0 c.put_file_line.ensures.written),
       omega arith,
     )
-
-pub returns : goal.returns
-returns g c =
-    let labels = (meaning c.args.script.now).labels in
-    let pool = meant c.args.pool.now in
-    let numbers = g.F.FileStore.map c.args.files.now in
-    let long = g.met.F.FileStore.long c.args.files.now in
-    record {
-      written = as_bytes _ (ap (file_lines labels pool 0) (take_all c.loop-file.file numbers (omega arith))) c.loop-file.invariant.0;
-      short = omega arith;
-    }
