@@ -1,5 +1,5 @@
 -- Contents that have to fit, added one after another.
-use Rattle.std.proofs.Common.{◌≡◌, ℕ, zero, suc, ◌+◌, ◌<◌, ◌≤◌, leb, List, [], ◌∷◌, ◌++◌, get_or, Bor, map, length, drop, Some, None, Option, sym, refl, ap, ◌∙◌, inl, inr, arith}
+use Rattle.std.proofs.Common.{◌≡◌, ℕ, suc, ◌+◌, ◌<◌, ◌≤◌, leb, List, [], ◌∷◌, ◌++◌, get_or, Bor, map, length, drop, Some, None, Option, sym, refl, ap, ◌∙◌, inl, inr, arith}
 use Rattle.std.proofs.lemmas.List.{append_assoc, append-nil, length-append, drop-map, length-map}
 use Rattle.std.proofs.lemmas.Bool.{cond-true, cond-false, cases_Bool, le-leb, lt-leb, leb-false}
 use Rattle.std.proofs.lemmas.Iterator.{YieldsList}
@@ -14,7 +14,7 @@ use Rattle.model.specs.Hazards.{has_read}
 use Rattle.model.specs.Contents.{Content, Pool, content}
 use Rattle.engine.specs.Fits.{fitting}
 use Rattle.engine.specs.Reads.{reads_in, numbers}
-use Rattle.engine.proofs.Nexts.{read_numbers}
+use Rattle.engine.proofs.Nexts.{nth_drop, nth_end, read_numbers}
 
 -- what does not fit does not fit with more
 over : (a b : Content) (m : ℕ) → None ≡ fitting m a → None ≡ fitting m (a ++ b)
@@ -46,19 +46,6 @@ short h m l = sym (cond-true (leb (length h) m) (Some h) None (le-leb (length h)
 -- GATHER: what is left to add at a place of the reads
 abbrev pub left : Pool → List ℕ → ℕ → Content
 left p ns at = all_bytes (map (content p) (drop at ns))
-
-pub nth_drop : (ns : List ℕ) (k n : ℕ) → Some n ≡ slice_get ns k → drop k ns ≡ n ∷ drop (k + 1) ns
-nth_drop [] k n e = let z : ◌≡◌ {A = ℕ} 0 1 = cc in absurd (omega arith)
-nth_drop (x ∷ ns) zero n e = let z : x ≡ n = cc in ap (λ y. y ∷ ns) z
-nth_drop (x ∷ ns) (suc k) n e =
-    let s : suc k + 1 ≡ suc (k + 1) = omega arith in
-    nth_drop ns k n e ∙ ap (λ i. n ∷ drop i (x ∷ ns)) (sym s)
-
-pub nth_end : (ns : List ℕ) (k : ℕ) → None ≡ slice_get ns k → drop k ns ≡ []
-nth_end [] zero e = refl
-nth_end [] (suc k) e = refl
-nth_end (x ∷ ns) zero e = let z : ◌≡◌ {A = ℕ} 0 1 = cc in absurd (omega arith)
-nth_end (x ∷ ns) (suc k) e = nth_end ns k e
 
 -- a loop over what line l read after its list: `xs` are the reads that came so far
 at_turn : (ds : List Entry) (k : ℕ) (e : Entry) → k < length (drop 1 ds) → e ≡ get_or (drop 1 ds) k e → Some e.number ≡ slice_get (map (λ d. d.number) ds) (k + 1)

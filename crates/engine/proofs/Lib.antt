@@ -2,6 +2,5 @@ pub mod Lists
 pub mod Nexts
 pub mod Fits
 pub mod Turns
-pub mod Skips
 pub mod Replays
 pub mod Listing

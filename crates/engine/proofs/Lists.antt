@@ -2,6 +2,7 @@
 use Rattle.std.proofs.Common.{◌≡◌, ℕ, zero, suc, ◌<◌, ◌≤◌, Bool, true, false, cond, ◌&&◌, leb, List, [], ◌∷◌, ◌++◌, min, option_and_then, subst, length, drop, is_some, Some, None, Option, sym, refl, ap, ◌∙◌, arith}
 use Rattle.std.proofs.lemmas.Bool.{cond-true, cond-false, le-leb, lt-leb, false≢true}
 use Rattle.std.proofs.lemmas.Iterator.{YieldsList}
+use Rattle.std.proofs.lemmas.List.{nil_from_length}
 use Rattle.std.proofs.lemmas.Iterator.Splits.{YieldsList-from_shown_while}
 use Rattle.std.specs.List.{slice_get, list_all}
 use Rattle.std.specs.Slice.Iter.{chunks_rest, chunks_size, chunks_steps}
@@ -10,22 +11,18 @@ use Rattle.model.specs.Commands.{with_file, pairs, listed}
 use Rattle.engine.specs.Lists.{two, twos, file_at}
 use Rattle.engine.specs.Nexts.{turn_next, gather_next}
 use Rattle.engine.specs.declared.next.Text.TheVariants.{Gathered}
-use Rattle.engine.specs.declared.next.Next.TheVariants.{Read, Write, Bad}
+use Rattle.engine.specs.declared.next.Next.TheVariants.{Read, Write}
 
 -- the pieces of a list of bytes, cut two by two
 twos_none : (l : List ℕ) → length l ≡ 0 → length (twos l) ≡ 0
 twos_none [] e = refl
 twos_none (d ∷ l) e = absurd (omega arith)
 
-nothing : (l : List ℕ) → length l ≡ 0 → l ≡ []
-nothing [] e = refl
-nothing (d ∷ l) e = absurd (omega arith)
-
 twos_some : (l x r : List ℕ) → l ≡ x ++ r → length x ≡ min 2 (length l) → 0 < length l → twos l ≡ x ∷ twos r
 twos_some l [] r e n h = absurd (omega arith)
 twos_some l (a ∷ []) r e n h =
     let m = ap length e in
-    let z : r ≡ [] = nothing r (omega arith) in
+    let z : r ≡ [] = nil_from_length r (omega arith) in
     ap twos e ∙ ap (λ q. twos (a ∷ q)) z ∙ ap (λ q. (a ∷ []) ∷ twos q) (sym z)
 twos_some l (a ∷ b ∷ []) r e n h = ap twos e
 twos_some l (a ∷ b ∷ c ∷ x) r e n h = absurd (omega arith)
@@ -95,13 +92,6 @@ turn_end b [] zero e = refl
 turn_end b [] (suc n) e = refl
 turn_end b (x ∷ fs) zero e = let z : ◌≡◌ {A = ℕ} 0 1 = cc in absurd (omega arith)
 turn_end b (x ∷ fs) (suc n) e = turn_end b fs n e
-
-not_listed : (b n : ℕ) (o : Option (List ℕ)) → false ≡ is_some o → Bad ≡ gather_next b o n
-not_listed b n None e = refl
-not_listed b n (Some fs) e = let z : ◌≡◌ {A = ℕ} 0 1 = absurd (false≢true e) in absurd (omega arith)
-
-pub gather_bad : (b n : ℕ) (l : List ℕ) → false ≡ is_some (listed l) → Bad ≡ gather_next b (listed l) n
-gather_bad b n l e = not_listed b n (listed l) e
 
 some_of : (o : Option (List ℕ)) → true ≡ is_some o → (fs : List ℕ) × (o ≡ Some fs)
 some_of None e = absurd (false≢true (sym e))

@@ -1,5 +1,5 @@
 -- What a read comes to.
-use Rattle.std.proofs.Common.{arith, ◌≡◌, ℕ, Bool, true, false, cond, eqb, List, [], ◌∷◌, ◌++◌, get_or, Some, None, Option, Ok, sym, refl, ap, ◌∙◌}
+use Rattle.std.proofs.Common.{arith, ◌≡◌, ℕ, true, false, eqb, List, [], ◌∷◌, ◌++◌, get_or, Some, None, Option, Ok, sym, refl, ap, ◌∙◌}
 use Rattle.std.proofs.lemmas.Bool.{cond-true, cond-false, eq-eqb, ne_eqb}
 use Rattle.model.specs.declared.command.Command.{Command}
 use Rattle.model.specs.declared.run.Entry.{Entry}
@@ -8,23 +8,18 @@ use Rattle.model.specs.declared.run.Hazard as Met
 use Rattle.model.specs.Acts.{State, Outcome, goes, stops, stop_at, tested, noted, reading, attempt}
 use Rattle.model.specs.Commands.{Want, reads, bad, want, is_bad}
 use Rattle.model.specs.Hazards.{has_read, hazard}
-use Rattle.model.specs.Contents.{Content, Pool, content, known}
+use Rattle.model.specs.Contents.{Pool, content, known}
+use Rattle.model.proofs.Script.{has_read_more}
 use Rattle.engine.specs.Nexts.{wanted}
 use Rattle.engine.specs.States.{met}
 use Rattle.engine.specs.declared.next.Next.{Next}
 use Rattle.engine.specs.declared.next.Next.TheVariants.{Read, Write, Bad}
 
-along : (a b : Bool) (x y : Content) (xs : List Content) → cond a (cond b (xs ++ y ∷ []) (x ∷ (xs ++ y ∷ []))) (xs ++ y ∷ []) ≡ cond a (cond b xs (x ∷ xs)) xs ++ y ∷ []
-along true true x y xs = refl
-along true false x y xs = refl
-along false b x y xs = refl
-
 -- one read more
-pub has_read_more : (p : Pool) (l f n : ℕ) (es : List Entry) → has_read p l (es ++ (record { line = l; wrote = false; file = f; number = n }) ∷ []) ≡ has_read p l es ++ content p n ∷ []
-has_read_more p l f n [] = cond-true (eqb l l) (content p n ∷ []) [] (eq-eqb l l refl)
-has_read_more p l f n (e ∷ es) =
-    ap (λ xs. cond (eqb l e.line) (cond e.wrote xs (content p e.number ∷ xs)) xs) (has_read_more p l f n es)
-    ∙ along (eqb l e.line) e.wrote (content p e.number) (content p n) (has_read p l es)
+pub has_read_one : (p : Pool) (l f n : ℕ) (es : List Entry) → has_read p l (es ++ (record { line = l; wrote = false; file = f; number = n }) ∷ []) ≡ has_read p l es ++ content p n ∷ []
+has_read_one p l f n es =
+    has_read_more p l es (record { line = l; wrote = false; file = f; number = n } ∷ [])
+    ∙ ap (λ xs. has_read p l es ++ xs) (cond-true (eqb l l) (content p n ∷ []) [] (eq-eqb l l refl))
 
 pub fit : (p : Pool) (l : ℕ) (es : List Entry) (r : Next) → (r ≡ Bad → ⊥) → is_bad (wanted p l es r) ≡ false
 fit p l es (Read f) h = refl
@@ -67,7 +62,7 @@ module _ (c : Command) (l f n : ℕ) (fs : List ℕ) (p : Pool) (es later slice 
   after = record { files = fs; pool = p; entries = later }
 
   next_reads : want c (has_read p l slice) ≡ want c (has_read p l es ++ content p n ∷ [])
-  next_reads = ap (λ q. want c (has_read p l q)) (all ∙ more) ∙ ap (want c) (has_read_more p l f n es)
+  next_reads = ap (λ q. want c (has_read p l q)) (all ∙ more) ∙ ap (want c) (has_read_one p l f n es)
 
   at_number : reading l before (entry_of l f n) (want c (has_read p l es ++ content p n ∷ [])) ≡ attempt (want c) l before (has_read p l es) (reads f)
   at_number = ap (λ k. reading l before (entry_of l f k) (want c (has_read p l es ++ content p k ∷ []))) number

@@ -7,6 +7,7 @@ ghost use Rattle.engine.specs.Reads.{reads_by, numbers};
 
 use model::{Entry, Use};
 
+// Kept: without the pool, which most of its methods do not ask, and which a write changes.
 /// What a line has done so far, read off the entries of all lines, the oldest first.
 #[derive(Clone, Copy)]
 pub(crate) struct Acts<'e> {

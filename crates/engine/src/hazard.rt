@@ -1,6 +1,5 @@
-ghost use Rattle.std.specs.Prelude.{◌≡◌};
-ghost use Rattle.std.specs.Option.{option_map};
-ghost use Rattle.model.specs.Hazards.{earliest, hazard};
+ghost use Rattle.std.specs.Prelude.{◌≡◌, None};
+ghost use Rattle.model.specs.Hazards.{earliest, hazard_or, hazard};
 ghost use Rattle.engine.specs.Meets.{meets};
 
 use model::{Entry, Hazard, HazardKind};
@@ -29,10 +28,10 @@ fn earliest_met(kind: HazardKind, entries: &[Entry], new: Entry) -> Option<Entry
         .find(|earlier| does_meet(kind, new, *earlier))
 }
 
-/// The hazard of this kind, with the earliest entry that a new one meets so.
 // Kept: that an act meets another is what is asked here; it becomes an error where the act is noted.
+/// The hazard of this kind, with the earliest entry that a new one meets so.
 fn hazard_by(kind: HazardKind, entries: &[Entry], new: Entry) -> Option<Hazard>
-    ensures { result ≡ option_map (λ e. record { kind = kind; file = new.file; earlier = e; later = new }) (earliest (meets kind new) entries.now) }
+    ensures { result ≡ hazard_or kind new (earliest (meets kind new) entries.now) None }
 {
     earliest_met(kind, entries, new).map(|earlier| Hazard {
         kind,
@@ -42,8 +41,8 @@ fn hazard_by(kind: HazardKind, entries: &[Entry], new: Entry) -> Option<Hazard>
     })
 }
 
+// Kept: an `Option`, as above; the hazard becomes an error in `note`.
 /// The hazard of a new entry, given the earlier ones.
-// Kept: the same.
 pub fn hazard_of(entries: &[Entry], new: Entry) -> Option<Hazard>
     ensures { result ≡ hazard new entries.now }
 {

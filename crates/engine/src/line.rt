@@ -31,7 +31,7 @@ pub fn line_state(command: Command, line: u8, entries: &[Entry], pool: &Pool) ->
     }
 }
 
-// Kept: the same.
+// Kept: as for `line_state`, a caller has a line and a log.
 /// The own record of a line that has ended.
 pub fn recorded(command: Command, line: u8, entries: &[Entry]) -> Record
     requires { length (reads_of line entries.now) ≤ 16 }

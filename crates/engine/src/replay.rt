@@ -1,4 +1,4 @@
-ghost use Rattle.std.specs.Prelude.{◌≡◌, true, false, cond, []};
+ghost use Rattle.std.specs.Prelude.{◌≡◌, false, []};
 ghost use Rattle.model.specs.Commands.{want};
 ghost use Rattle.model.specs.Truth.{asks, makes, follows};
 ghost use Rattle.model.specs.Contents.{content as content_of};

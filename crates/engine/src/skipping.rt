@@ -1,8 +1,6 @@
-ghost use Rattle.std.specs.Prelude.{◌≡◌, ◌+◌, ◌<◌, ◌&&◌, ◌∷◌, length, ◌==◌, slice_index};
-ghost use Rattle.std.specs.List.{list_all};
+ghost use Rattle.std.specs.Prelude.{◌≡◌, ◌+◌, ◌<◌, ◌&&◌, ◌∷◌, length, ◌==◌};
 ghost use Rattle.lists.specs.Held.{held, room};
-ghost use Rattle.model.specs.Acts.{State};
-ghost use Rattle.model.specs.Contents.{Pool as PoolMeant, holds};
+ghost use Rattle.model.specs.Contents.{Pool as PoolMeant};
 ghost use Rattle.model.specs.Step.{match as matching, all_held, entry as entry_of, skip as skips};
 ghost use Rattle.model.specs.Records.{said};
 ghost use Rattle.pool.specs.Contents.{meant};
@@ -29,20 +27,19 @@ pub(crate) fn entry(line: u8, wrote: bool, act: Use) -> Entry
 
 /// Every number is in the pool.
 fn are_held(acts: &[Use], pool: &Pool) -> bool
-    ensures { result ≡ list_all (λ act. holds (meant pool.now) act.number) acts.now }
+    ensures { result ≡ all_held (meant pool.now) acts.now }
 {
     acts.iter().all(|act| pool.holds(act.number))
 }
 
 /// The files hold what was read.
 fn do_match<F: FileStore>(reads: &[Use], files: &F) -> bool
-    ensures { result ≡ list_all (λ act. slice_index (F.FileStore.map files.now) act.file == act.number) reads.now }
+    ensures { result ≡ matching (F.FileStore.map files.now) reads.now }
 {
     reads.iter().all(|act| files.tell(act.file) == act.number)
 }
 
 /// The acts of a record can be made again: each number is in the pool, and the files hold what was read.
-#[tactic(auto, using(crate::proofs::Skips::all_held_is, crate::proofs::Skips::match_is))]
 pub fn can_skip<F: FileStore>(rec: &Record, files: &F, pool: &Pool) -> bool
     ensures { result ≡ (all_held (meant pool.now) ((said rec.now).write ∷ (said rec.now).reads) && matching (F.FileStore.map files.now) (said rec.now).reads) }
 {

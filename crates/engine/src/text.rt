@@ -1,4 +1,4 @@
-ghost use Rattle.std.specs.Prelude.{◌≡◌, [], ◌++◌, length, drop};
+ghost use Rattle.std.specs.Prelude.{◌≡◌, ◌++◌, length, drop};
 ghost use Rattle.std.specs.Str.{bytes_eq};
 ghost use Rattle.lists.specs.Held.{held, room};
 ghost use Rattle.model.specs.Commands.{all_bytes, sheets, verdict};
@@ -21,6 +21,7 @@ fn add(out: &mut Lent<u8>, bytes: &[u8]) -> Result<(), TooLong>
     ensures held { kept result (held out.new) ≡ fitting (room out.old) (held out.old ++ bytes.now) }
     ensures room { room out.new ≡ room out.old }
 {
+    // Kept: `then_some(()).ok_or(TooLong)` is no plainer.
     if out.extend(bytes) {
         Ok(())
     } else {

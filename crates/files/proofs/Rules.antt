@@ -1,7 +1,7 @@
 -- The layouts of maps are the bytes that keep the rules of an image.
 use Rattle.std.proofs.Common.{◌≡◌, ℕ, zero, suc, ◌+◌, ◌-◌, ◌*◌, ◌/◌, ◌%◌, ◌<◌, ◌≤◌, min, Bool, true, false, cond, eqb, List, [], ◌∷◌, ◌++◌, length, get_or, replicate, sym, refl, ap, ◌∙◌, subst, inl, inr, arith}
-use Rattle.std.proofs.lemmas.List.{get_or_past}
 use Rattle.std.proofs.lemmas.Bool.{cond-true, cond-false, eq-eqb, ne_eqb, eqb-false, cases_eq}
+use Rattle.model.proofs.Lists.{get_or-same}
 use Rattle.files.specs.Layout.{Map, Rules, Entries, entries, present, padded, layout, told, numbers, mapped}
 use Rattle.files.proofs.Layouts.{layout_length}
 use Rattle.files.specs.Trips.{digits, present_low}
@@ -24,18 +24,13 @@ kept g (n ∷ ns) zs h low zeros = by (kept (suc g) ns zs (omega arith) (λ i. l
     by rest true e = weaken g (suc g) (present ns) (entries (suc g) ns ++ zs) (omega arith) rest
     by rest false e = (omega arith, omega arith, λ z. eqb-false n 0 e (sym (digits n (low 0)) ∙ z), rest)
 
-zeros : (n k : ℕ) → ◌≡◌ {A = ℕ} (get_or (replicate n 0) k 0) 0
-zeros zero k = get_or_past [] k 0 (omega arith)
-zeros (suc n) zero = refl
-zeros (suc n) (suc k) = zeros n k
-
 pub layout_rules : (ns : List ℕ) → Map ns → Rules (layout ns)
 unfolding layout padded
 layout_rules ns is =
     record {
       size = layout_length ns is.long;
       count = omega (arith, present_low ns, is.long);
-      entries = kept 0 ns (replicate (193 - length (present ns ∷ entries 0 ns)) 0) (omega (arith, is.long)) is.fits (zeros (193 - length (present ns ∷ entries 0 ns)));
+      entries = kept 0 ns (replicate (193 - length (present ns ∷ entries 0 ns)) 0) (omega (arith, is.long)) is.fits (λ k. get_or-same (193 - length (present ns ∷ entries 0 ns)) k 0);
     }
 
 -- entries of files from g on say nothing of a file below g

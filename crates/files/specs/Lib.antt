@@ -3,3 +3,4 @@ pub mod Drafts
 pub mod Laws
 pub mod Images
 pub mod Trips
+pub mod Tables

@@ -29,6 +29,7 @@ pub fn number_in(bytes: &[u8; 193], file: u8) -> u16
     }
     let entries = bytes[1..].as_chunks::<3>().0;
     let count = bytes[0].min(64) as usize;
+    // Kept: the proof did not close over `map_or`.
     match entry_of(&entries[..count], file) {
         Some(entry) => u16::from_be_bytes([entry[1], entry[2]]),
         None => 0,

@@ -5,7 +5,7 @@ ghost use Rattle.std.specs.Prelude.{◌≡◌, ℕ, ◌<◌, List, length, slice
 pub trait FileStore {
     ghost map: { Self → List ℕ };
 
-    // Kept: 0, as everywhere for an absent file.
+    // Kept: 0, the number of an absent file; by the rules a file above 63 is told as absent.
     /// The number of a file; 0 above 63.
     fn tell(&self, file: u8) -> u16
         ensures { result ≡ slice_index (map self.now) file };

@@ -13,16 +13,20 @@ pub struct Table {
 }
 
 impl Table {
+    ghost use Rattle.files.specs.Tables.{numbers_of};
+
     /// A table in which every file is absent.
     pub fn new() -> Table
-        ensures { result.numbers ≡ replicate 64 0 }
+        ensures { numbers_of result ≡ replicate 64 0 }
     {
         Table { numbers: [0; 64] }
     }
 }
 
 impl FileStore for Table {
-    ghost map = { λ t. t.numbers };
+    ghost use Rattle.files.specs.Tables.{numbers_of};
+
+    ghost map = { numbers_of };
 
     ghost long = { first_of (Prim.search rules, Prim.grind (arith, Self.row.coded.inj)) };
 

@@ -2,7 +2,8 @@ ghost use Rattle.std.specs.Prelude.{◌≤◌, length};
 
 mod methods;
 
-// Kept: this is the list over lent memory; the library's own lists hold their memory themselves.
+// Kept: this is the list over lent memory; the library's own lists hold their memory themselves. Each function that
+// changes a list says that its room stays, since no type says it of a borrow.
 /// A list that grows at its end, over a slice that its owner lends.
 ///
 /// It holds the first `len` elements of the slice; what lies past them is free.

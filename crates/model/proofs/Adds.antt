@@ -1,6 +1,8 @@
 -- A step adds entries of its own line alone, at most one by an act, and at least one where its line had made no act. Assumes nothing.
 use Rattle.std.proofs.Common.{◌≡◌, ℕ, zero, suc, ◌<◌, ◌≤◌, Bool, true, false, cond, not, ◌&&◌, eqb, leb, List, [], ◌∷◌, ◌++◌, length, get_or, Some, None, Option, sym, refl, ◌∙◌, subst, append_assoc, append-nil, arith}
 use Rattle.std.proofs.lemmas.Bool.{ne_eqb, eq-eqb}
+use Rattle.std.proofs.lemmas.List.Folds.{list_all-append}
+use Rattle.std.proofs.Math.Bool.{or-false, and-true}
 use Rattle.model.specs.declared.command.Kind.{Kind}
 use Rattle.model.specs.declared.command.Kind.TheVariants.{Copy, Join, Gather, Choose, Tally, Check}
 use Rattle.model.specs.declared.command.Command.{Command}
@@ -15,7 +17,6 @@ use Rattle.model.specs.Records.{Use, Record}
 use Rattle.model.specs.World.{World, state, lines}
 use Rattle.model.specs.Step.{entry, skip, record_for, work_by, work}
 use Rattle.model.proofs.Script.{ended_more}
-use Rattle.model.proofs.Bools.{or_false, and_true}
 use Rattle.model.proofs.Skip.{fresh_has}
 
 -- all entries are of line l
@@ -102,12 +103,7 @@ work_adds w l = by (record_for w l)
 -- WHAT THAT DOES TO THE LINES
 
 pub fresh_more : (l : ℕ) (es ds : List Entry) → fresh l (es ++ ds) ≡ (fresh l es && fresh l ds)
-fresh_more l [] ds = refl
-fresh_more l (e ∷ es) ds = rw (fresh_more l es ds) (by (not (eqb l e.line)))
-  where
-    by : (b : Bool) → (b && (fresh l es && fresh l ds)) ≡ ((b && fresh l es) && fresh l ds)
-    by true = refl
-    by false = refl
+fresh_more l = list_all-append (λ e. not (eqb l e.line))
 
 of_other : (l m : ℕ) → (m ≡ l → ⊥) → (es : List Entry) → Of l es → (fresh m es ≡ true) × (ended m es ≡ false)
 of_other l m ne [] h = (refl, refl)
@@ -120,7 +116,7 @@ of_other l m ne (e ∷ es) h =
 pub adds_other : (n l : ℕ) (es ds : List Entry) → Adds n l es ds → (m : ℕ) → (m ≡ l → ⊥) → (fresh m ds ≡ fresh m es) × (ended m ds ≡ ended m es)
 adds_other n l es ds a m ne =
     let o = of_other l m ne a.new a.of in
-    (rw (a.is, fresh_more m es a.new, o.0) (and_true (fresh m es)), rw (a.is, ended_more m es a.new, o.1) (or_false (ended m es)))
+    (rw (a.is, fresh_more m es a.new, o.0) (and-true (fresh m es)), rw (a.is, ended_more m es a.new, o.1) (or-false (ended m es)))
 
 -- a line that has made an act has made one
 pub adds_fresh : (n l : ℕ) (es ds : List Entry) → Adds n l es ds → (m : ℕ) → fresh m es ≡ false → fresh m ds ≡ false
@@ -128,17 +124,17 @@ adds_fresh n l es ds a m h = rw (a.is, fresh_more m es a.new, h)
 
 -- A LINE'S FIRST ACT is a read, and is noted
 
-first_read : (k : Kind) (a b c d : ℕ) → next k a b c d [] ≡ reads a
-first_read Copy a b c d = refl
-first_read Join a b c d = refl
-first_read Gather a b c d = refl
-first_read Choose a b c d = refl
-first_read Tally a b c d = refl
-first_read Check a b c d = refl
+pub starts : (k : Kind) (a b c d : ℕ) → next k a b c d [] ≡ reads a
+starts Copy a b c d = refl
+starts Join a b c d = refl
+starts Gather a b c d = refl
+starts Choose a b c d = refl
+starts Tally a b c d = refl
+starts Check a b c d = refl
 
 wants_first : (cs : List Command) (l : ℕ) → l < length cs → (f : ℕ) × (wants cs l [] ≡ reads f)
 wants_first [] l h = absurd (omega arith)
-wants_first (c ∷ cs) zero h = (c.a, first_read c.kind c.a c.b c.c c.d)
+wants_first (c ∷ cs) zero h = (c.a, starts c.kind c.a c.b c.c c.d)
 wants_first (c ∷ cs) (suc l) h = wants_first cs l (omega arith)
 
 abbrev Seen : ℕ → List Entry → Type 0

@@ -2,6 +2,7 @@
 use Rattle.std.proofs.Common.{◌≡◌, ℕ, zero, suc, ◌≤◌, Bool, true, false, cond, ltb, List, [], ◌∷◌, ◌++◌, length, set, Some, None, Ok, Err, refl, ap, ◌∙◌, arith, length-set}
 use Rattle.std.proofs.lemmas.List.{length-append}
 use Rattle.std.proofs.lemmas.Bool.{or_parts, or_from, ltb-true}
+use Rattle.std.proofs.lemmas.List.Recursion.{or_push}
 use Rattle.model.specs.declared.command.Command.{Command}
 use Rattle.model.specs.declared.run.Entry.{Entry}
 use Rattle.model.specs.Contents.{Content, Pool}
@@ -40,8 +41,7 @@ replace_unique q (r ∷ rs) u = by (same_command q.command r.command) refl (repl
     by false e ih = (replace_only q rs r.command u.0, ih)
 
 append_only : (q : Record) (rs : List Record) → Only q rs (rs ++ q ∷ [])
-append_only q [] c h s = or_from _ _ s refl
-append_only q (r ∷ rs) c h s = let k = or_parts (same_command c r.command) (has_record c rs) h in or_from _ _ k.0 (append_only q rs c k.1 s)
+append_only q rs c h s = or_push (has_record c) (λ r. same_command c r.command) refl (λ r qs. refl) rs q ∙ or_from _ _ h s
 
 append_unique : (q : Record) (rs : List Record) → Unique rs → has_record q.command rs ≡ false → Unique (rs ++ q ∷ [])
 append_unique q [] u h = (refl, tt)

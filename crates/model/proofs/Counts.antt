@@ -63,7 +63,7 @@ skip_ended w l h g = by (record_for w l) h (work_by (record_for w l) w.notes.com
     by (Some q) h t e g = gone q t e g
 
 -- a line that has ended has made an act
-ended_acted : (l : ℕ) (es : List Entry) → ended l es ≡ true → fresh l es ≡ false
+pub ended_acted : (l : ℕ) (es : List Entry) → ended l es ≡ true → fresh l es ≡ false
 ended_acted l [] h = absurd (both_ways false refl h)
 ended_acted l (e ∷ es) h = by (eqb l e.line) h (ended_acted l es)
   where

@@ -1,13 +1,13 @@
 -- The log as a trace, told by contents. Assumes nothing.
 use Rattle.std.proofs.Common.{◌≡◌, ℕ, Bool, true, false, cond, not, ◌&&◌, ◌||◌, eqb, ltb, List, [], ◌∷◌, ◌++◌, Some, None, Option, sym, refl, ◌∙◌, append_assoc, append-nil, arith}
 use Rattle.std.proofs.lemmas.Bool.{or_parts, or_from, true≢false}
+use Rattle.std.proofs.Math.Bool.{or-false}
 use Rattle.model.specs.declared.run.Entry.{Entry}
 use Rattle.model.specs.declared.run.HazardKind.TheVariants.{WriteWrite, ReadWrite, SpeculativeWriteRead}
 use Rattle.model.specs.Contents.{Content, Pool, holds, content}
 use Rattle.model.specs.Hazards.{has_read, ended, write_write, read_write, speculative_write_read, earliest, hazard_or, hazard}
 use Rattle.model.specs.Promise.{Act, acts_of}
 use Rattle.model.proofs.Trace as Trace
-use Rattle.model.proofs.Bools.{or_false}
 use Rattle.model.proofs.Trace.{Event, rd, wr, Trace, line, mine, seen, hits, clash}
 use Rattle.model.proofs.Pools.{Grows, grows_holds}
 
@@ -109,8 +109,8 @@ hits_hit p n e = by n.wrote e.wrote
   where
     by : (b c : Bool) → hits (event_by b n.line n.file (content p n.number)) (event_by c e.line e.file (content p e.number)) ≡
         ((b && (c && eqb n.file e.file)) || ((b && (not c && eqb n.file e.file)) || (not b && (c && (eqb n.file e.file && ltb n.line e.line)))))
-    by true true = sym (or_false _)
-    by true false = sym (or_false _)
+    by true true = sym (or-false _)
+    by true false = sym (or-false _)
     by false true = refl
     by false false = refl
 
@@ -120,7 +120,7 @@ or_shift true false c = refl
 or_shift false b c = refl
 
 pub clash_trace : (p : Pool) (n : Entry) (t : Trace) (es : List Entry) → clash (event p n) (trace p t es) ≡ (clash (event p n) t || clashes n es)
-clash_trace p n t [] = sym (or_false _)
+clash_trace p n t [] = sym (or-false _)
 clash_trace p n t (e ∷ es) = clash_trace p n (event p e ∷ t) es ∙ rw (hits_hit p n e) (or_shift (hit n e) (clash (event p n) t) (clashes n es))
 
 not_first : (b : Bool) (e : Entry) (o : Option Entry) → cond b (Some e) o ≡ None → (b ≡ false) × (o ≡ None)

@@ -1,6 +1,7 @@
 -- What a working step that goes on does to the entries: those of other lines stay, and its own line comes nearer to its end.
 use Rattle.std.proofs.Common.{◌≡◌, ℕ, zero, suc, ◌<◌, Bool, true, false, cond, eqb, ◌⊎◌, List, [], ◌∷◌, ◌++◌, length, Some, None, Option, sym, refl, ap, ◌∙◌, subst, inl, inr, ⊎_elim, arith}
 use Rattle.std.proofs.lemmas.Bool.{cases_Bool, both_ways, and_from, eq-eqb, ne_eqb, lt-ltb, not_from_false, or_right}
+use Rattle.std.proofs.Math.Bool.{or-false}
 use Rattle.model.specs.declared.command.Command.{Command}
 use Rattle.model.specs.declared.run.Entry.{Entry}
 use Rattle.model.specs.declared.run.Hazard.{Hazard}
@@ -14,7 +15,6 @@ use Rattle.model.specs.Policies.{Front}
 use Rattle.model.specs.World.{World, state}
 use Rattle.model.specs.Step.{skip, entry, left, all_ended, record_for, work_by, work}
 use Rattle.model.proofs.Script.{ReadAct, WriteAct, was, nearer, ended_more}
-use Rattle.model.proofs.Bools.{or_false}
 use Rattle.model.proofs.Correspond.{not_goes, goes_is}
 use Rattle.model.proofs.Sound.{left_parts}
 
@@ -33,7 +33,7 @@ reads_other m [] e h = rw h
 reads_other m (d ∷ es) e h = rw (reads_other m es e h)
 
 ended_other : (m : ℕ) (es : List Entry) (e : Entry) → eqb m e.line ≡ false → ended m (es ++ e ∷ []) ≡ ended m es
-ended_other m es e h = ended_more m es (e ∷ []) ∙ rw h (or_false (ended m es))
+ended_other m es e h = ended_more m es (e ∷ []) ∙ rw h (or-false (ended m es))
 
 -- what a working step that goes on does to the entries
 pub record Moved (l : ℕ) (es ds : List Entry) : Type 0 where

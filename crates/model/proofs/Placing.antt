@@ -1,6 +1,7 @@
 -- A kept run leaves in the book the record of each of its lines: there is always a place for it, and no later line takes it away. Assumes nothing.
-use Rattle.std.proofs.Common.{◌≡◌, ℕ, zero, suc, ◌+◌, ◌≤◌, Bool, true, false, cond, not, ◌||◌, ltb, List, [], ◌∷◌, ◌++◌, length, Some, sym, refl, ap, ◌∙◌, ⊎_elim, arith}
-use Rattle.std.proofs.lemmas.Bool.{cases_Bool, both_ways, or_parts, ltb-false, true≢false}
+use Rattle.std.proofs.Common.{◌≡◌, ℕ, zero, suc, ◌+◌, ◌≤◌, Bool, true, false, cond, not, ◌||◌, ltb, List, [], ◌∷◌, ◌++◌, length, Some, sym, refl, ap, ◌∙◌, ⊎_elim, arith, None}
+use Rattle.std.proofs.lemmas.Bool.{cases_Bool, both_ways, or_parts, ltb-false, not-false}
+use Rattle.std.proofs.lemmas.List.Recursion.{found_push_other}
 use Rattle.model.specs.declared.command.Command.{Command}
 use Rattle.model.specs.declared.run.Entry.{Entry}
 use Rattle.model.specs.Records.{Record}
@@ -20,10 +21,6 @@ spare cs (r ∷ rs) = not (in_script r.command cs) || spare cs rs
 abbrev without : Command → List Command → List Command
 without c [] = []
 without c (d ∷ ds) = cond (same_command c d) ds (d ∷ without c ds)
-
-not_false : (b : Bool) → not b ≡ false → b ≡ true
-not_false true h = refl
-not_false false h = absurd (true≢false h)
 
 without_length : (c : Command) (cs : List Command) → in_script c cs ≡ true → length cs ≡ suc (length (without c cs))
 without_length c [] h = absurd (both_ways false refl h)
@@ -48,14 +45,14 @@ spare_without c cs [] u h = refl
 spare_without c cs (r ∷ rs) u h =
     let a = or_parts (same_command c r.command) (has_record c rs) u in
     let b = or_parts (not (in_script r.command cs)) (spare cs rs) h in
-    let here = without_in c r.command cs (not_false _ b.0) (unlike c r.command a.0) in
+    let here = without_in c r.command cs (not-false _ b.0) (unlike c r.command a.0) in
     rw here (spare_without c cs rs a.1 b.1)
 
 few_records : (rs : List Record) (cs : List Command) → Unique rs → spare cs rs ≡ false → length rs ≤ length cs
 few_records [] cs u h = omega arith
 few_records (r ∷ rs) cs u h =
     let b = or_parts (not (in_script r.command cs)) (spare cs rs) h in
-    let less = without_length r.command cs (not_false _ b.0) in
+    let less = without_length r.command cs (not-false _ b.0) in
     let ih = few_records rs (without r.command cs) u.1 (spare_without r.command cs rs u.0 b.1) in
     omega arith
 
@@ -112,10 +109,6 @@ module _ (q : Record) where
         by true e ih = let out : same_command d r.command ≡ false = ap (same_command d) (sym (same_is c r.command e)) ∙ other in rw (other, out)
         by false e ih = rw ih
 
-    append_other : (rs : List Record) → record_of d (rs ++ q ∷ []) ≡ record_of d rs
-    append_other [] = rw other
-    append_other (r ∷ rs) = rw (append_other rs)
-
     evict_other : (cs : List Command) → in_script d cs ≡ true → (rs : List Record) → record_of d (evict cs q rs) ≡ record_of d rs
     evict_other cs h [] = refl
     evict_other cs h (r ∷ rs) = by (in_script r.command cs) refl (evict_other cs h rs)
@@ -131,7 +124,7 @@ module _ (q : Record) where
       where
         by : (a b : Bool) → record_of d (cond a (replace q rs) (cond b (rs ++ q ∷ []) (evict cs q rs))) ≡ record_of d rs
         by true b = replace_other rs
-        by false true = append_other rs
+        by false true = found_push_other (record_of d) (λ r. same_command d r.command) (λ r. Some r) None refl (λ r qs. refl) rs q other
         by false false = evict_other cs h rs
 
 -- ALL LINES
@@ -141,15 +134,11 @@ abbrev pub Different : List Command → Type 0
 Different [] = Unit {0}
 Different (c ∷ cs) = (in_script c cs ≡ false) × Different cs
 
-in_parts : (b r : Bool) → (b || r) ≡ false → (b ≡ false) × (r ≡ false)
-in_parts true r h = absurd (true≢false h)
-in_parts false r h = (refl, h)
-
 module _ (cs : List Command) (places : ℕ) (es : List Entry) (le : length cs ≤ places) where
   keeps_other : (d : Command) → in_script d cs ≡ true → (l : ℕ) (left : List Command) (rs : List Record) → in_script d left ≡ false → record_of d (keeps cs places es l left rs) ≡ record_of d rs
   keeps_other d h l [] rs out = refl
   keeps_other d h l (c ∷ left) rs out =
-      let a = in_parts (same_command d c) (in_script d left) out in
+      let a = or_parts (same_command d c) (in_script d left) out in
       keeps_other d h (suc l) left (keep cs places (recorded l c es) rs) a.1 ∙ keep_other (recorded l c es) d a.0 cs places rs h
 
   pub keeps_found :

@@ -41,12 +41,12 @@ adds_made n l es ds a = rw (a.is, made_more l es a.new, made_of l a.new a.of) (o
 adds_made_other : (n l : ℕ) (es ds : List Entry) → Adds n l es ds → (m : ℕ) → (m ≡ l → ⊥) → acts_made m ds ≡ acts_made m es
 adds_made_other n l es ds a m ne = rw (a.is, made_more m es a.new, made_other l m ne a.new a.of) (omega arith)
 
-made_fresh : (l : ℕ) (es : List Entry) → fresh l es ≡ true → acts_made l es ≡ 0
+pub made_fresh : (l : ℕ) (es : List Entry) → fresh l es ≡ true → acts_made l es ≡ 0
 made_fresh l [] h = refl
 made_fresh l (e ∷ es) h = let b = and_parts (not (eqb l e.line)) (fresh l es) h in rw (not-true _ b.0, made_fresh l es b.1) (omega arith)
 
 -- a line that has not ended has only read
-made_read : (p : Pool) (l : ℕ) (es : List Entry) → ended l es ≡ false → acts_made l es ≡ length (has_read p l es)
+pub made_read : (p : Pool) (l : ℕ) (es : List Entry) → ended l es ≡ false → acts_made l es ≡ length (has_read p l es)
 made_read p l [] h = refl
 made_read p l (e ∷ es) h = by (eqb l e.line) e.wrote h (made_read p l es)
   where
@@ -57,7 +57,7 @@ made_read p l (e ∷ es) h = by (eqb l e.line) e.wrote h (made_read p l es)
     by false c h ih = let k = ih h in omega arith
 
 -- the acts of the first n lines
-abbrev total : ℕ → List Entry → ℕ
+abbrev pub total : ℕ → List Entry → ℕ
 total zero es = 0
 total (suc n) es = acts_made n es + total n es
 
@@ -76,17 +76,17 @@ total_below (suc n) e es h = ⊎_elim
     (λ (le : n ≤ e.line). let same : n ≡ e.line = omega arith in rw (eq-eqb n e.line same, total_above n e es le) (omega arith))
     (cases_lt e.line n)
 
-total_all : (n : ℕ) (es : List Entry) → ((l : ℕ) → n ≤ l → acts_made l es ≡ 0) → total n es ≡ length es
+pub total_all : (n : ℕ) (es : List Entry) → ((l : ℕ) → n ≤ l → acts_made l es ≡ 0) → total n es ≡ length es
 total_all n [] h = total_none n
 total_all n (e ∷ es) h =
     let here : e.line < n = ⊎_elim (λ lt. lt) (λ (le : n ≤ e.line). let k : 1 + acts_made e.line es ≡ 0 = rw (eq-eqb e.line e.line refl) at (h e.line le) in absurd (omega arith)) (cases_lt e.line n) in
     total_below n e es here ∙ ap suc (total_all n es (λ l le. let k = h l le in omega arith))
 
-total_most : (n : ℕ) (es : List Entry) → ((l : ℕ) → acts_made l es ≤ 17) → total n es ≤ 17 * n
+pub total_most : (n : ℕ) (es : List Entry) → ((l : ℕ) → acts_made l es ≤ 17) → total n es ≤ 17 * n
 total_most zero es h = omega arith
 total_most (suc n) es h = omega (arith, h n, total_most n es h)
 
-total_room : (n l : ℕ) (es : List Entry) → ((l : ℕ) → acts_made l es ≤ 17) → l < n → total n es + 17 ≤ 17 * n + acts_made l es
+pub total_room : (n l : ℕ) (es : List Entry) → ((l : ℕ) → acts_made l es ≤ 17) → l < n → total n es + 17 ≤ 17 * n + acts_made l es
 total_room zero l es h lt = absurd (omega arith)
 total_room (suc n) l es h lt = ⊎_elim
     (λ (k : l < n). omega (arith, h n, total_room n l es h k))

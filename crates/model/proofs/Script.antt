@@ -2,6 +2,7 @@
 use Rattle.std.proofs.Common.{◌≡◌, ℕ, zero, suc, ◌+◌, ◌<◌, ◌≤◌, Bool, true, false, cond, ◌&&◌, ◌||◌, eqb, leb, ◌⊎◌, List, [], ◌∷◌, ◌++◌, length, get_or, Some, None, Option, sym, refl, ap, ◌∙◌, inl, inr, ⊎_elim, arith}
 use Rattle.std.proofs.lemmas.List.{length-append}
 use Rattle.std.proofs.lemmas.Bool.{cases_lt, both_ways, eq-eqb, or_right}
+use Rattle.std.proofs.lemmas.List.Folds.{list_any-append}
 use Rattle.model.specs.declared.command.Command.{Command}
 use Rattle.model.specs.declared.run.Entry.{Entry}
 use Rattle.model.specs.declared.run.Hazard.{Hazard}
@@ -29,12 +30,7 @@ has_read_more p l (e ∷ es) ds = rw (has_read_more p l es ds) (by (eqb l e.line
     by false c = refl
 
 pub ended_more : (l : ℕ) (es ds : List Entry) → ended l (es ++ ds) ≡ (ended l es || ended l ds)
-ended_more l [] ds = refl
-ended_more l (e ∷ es) ds = rw (ended_more l es ds) (by (eqb l e.line && e.wrote))
-  where
-    by : (b : Bool) → (b || (ended l es || ended l ds)) ≡ ((b || ended l es) || ended l ds)
-    by true = refl
-    by false = refl
+ended_more l = list_any-append (λ e. eqb l e.line && e.wrote)
 
 -- WHAT AN ACT THAT GOES ON WAS
 

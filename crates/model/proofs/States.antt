@@ -1,6 +1,8 @@
 -- In an open run the state of each line is the one that its entries tell: a step turns its own line, and no other line's state changes.
-use Rattle.std.proofs.Common.{◌≡◌, ℕ, zero, suc, ◌<◌, ◌≤◌, Bool, true, false, ◌&&◌, ◌||◌, eqb, List, [], ◌∷◌, ◌++◌, length, get_or, replicate, sym, refl, ap, ◌∙◌, ⊎_elim, append-nil, arith, length-set, get_or-set_other, get_or-set_same}
+use Rattle.std.proofs.Common.{◌≡◌, ℕ, ◌<◌, ◌≤◌, true, false, ◌&&◌, eqb, List, [], ◌∷◌, ◌++◌, length, get_or, sym, refl, ap, ◌∙◌, ⊎_elim, append-nil, arith, length-set, get_or-set_other, get_or-set_same}
 use Rattle.std.proofs.lemmas.Bool.{cases_eq, ne_eqb}
+use Rattle.std.proofs.lemmas.List.Folds.{list_any-append}
+use Rattle.std.proofs.Math.Bool.{or-false}
 use Rattle.model.specs.declared.run.Entry.{Entry}
 use Rattle.model.specs.declared.run.LineState.TheVariants.{Waiting}
 use Rattle.model.specs.declared.answers.Stepped.{Stepped}
@@ -15,23 +17,15 @@ use Rattle.model.specs.Step.{Worked, record_for, work}
 use Rattle.model.specs.Past.{Past, found}
 use Rattle.model.specs.Laws.{StatesFollow}
 use Rattle.model.proofs.Pools.{Grows, grows_refl, grows_trans, grows_put, grows_holds}
-use Rattle.model.proofs.Bools.{or_false}
 use Rattle.model.proofs.Entries.{Numbered}
 use Rattle.model.proofs.Script.{has_read_more}
 use Rattle.model.proofs.Growth.{work_pool}
 use Rattle.model.proofs.Changes.{open_law}
 use Rattle.model.proofs.Sound.{sound, Open, left_parts}
 use Rattle.model.proofs.Adds.{Of, Adds, most_new, work_adds, adds_other}
+use Rattle.model.proofs.Lists.{get_or-same}
 
 -- OTHER LINES
-
-absent_more : (l : ℕ) (es ds : List Entry) → read_absent l (es ++ ds) ≡ (read_absent l es || read_absent l ds)
-absent_more l [] ds = refl
-absent_more l (e ∷ es) ds = rw (absent_more l es ds) (by (eqb l e.line && eqb e.number 0))
-  where
-    by : (b : Bool) → (b || (read_absent l es || read_absent l ds)) ≡ ((b || read_absent l es) || read_absent l ds)
-    by true = refl
-    by false = refl
 
 of_other : (p : Pool) (l m : ℕ) → (m ≡ l → ⊥) → (es : List Entry) → Of l es → (has_read p m es ≡ []) × (read_absent m es ≡ false)
 of_other p l m ne [] h = (refl, refl)
@@ -49,7 +43,7 @@ state_same k p q g n l es ds h a m ne =
     let o = adds_other n l es ds a m ne in
     let x = of_other q l m ne a.new a.of in
     let seen : has_read q m ds ≡ has_read p m es = ap (has_read q m) a.is ∙ has_read_more q m es a.new ∙ ap (λ ys. has_read q m es ++ ys) x.0 ∙ append-nil _ ∙ has_read_grown p q g m es h in
-    let missed : read_absent m ds ≡ read_absent m es = ap (read_absent m) a.is ∙ absent_more m es a.new ∙ rw x.1 (or_false (read_absent m es)) in
+    let missed : read_absent m ds ≡ read_absent m es = ap (read_absent m) a.is ∙ list_any-append (λ e. eqb m e.line && eqb e.number 0) es a.new ∙ rw x.1 (or-false (read_absent m es)) in
     rw (o.0, o.1, seen, missed)
 
 -- THE TABLE
@@ -58,11 +52,6 @@ pub record Table (w : World) : Type 0 where
   pub all : length w.notes.states ≡ 64
   pub few : lines w ≤ 64
   pub right : (l : ℕ) → l < lines w → get_or w.notes.states l Waiting ≡ line_state (wants w.notes.commands l) l w.pool w.entries
-
-waiting : (n l : ℕ) → get_or (replicate n Waiting) l Waiting ≡ Waiting
-waiting zero l = refl
-waiting (suc n) zero = refl
-waiting (suc n) (suc l) = waiting n l
 
 module _ {w : World} (p : Past w) (v : World) (t : Ticket) (a : Asked) (st : Stepped) (d : Worked t a st w v) (ih : Table w) where
   abbrev l : ℕ
@@ -88,7 +77,7 @@ module _ {w : World} (p : Past w) (v : World) (t : Ticket) (a : Asked) (st : Ste
   })
 
 pub table : {w : World} → Past w → w.is_open ≡ true → Table w
-table = open_law Table (λ w cs e few. record { all = refl; few = few; right = λ l lt. waiting 64 l }) (λ w p v t a st d h. table_step p v t a st d h)
+table = open_law Table (λ w cs e few. record { all = refl; few = few; right = λ l lt. get_or-same 64 l Waiting }) (λ w p v t a st d h. table_step p v t a st d h)
 
 pub states_follow : StatesFollow
 states_follow w p i l lt = (table p i).right l lt

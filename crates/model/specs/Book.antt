@@ -11,6 +11,11 @@ own Hint = false
 own Own = true
 own Struck = false
 
+abbrev pub unstruck : Standing → Bool
+unstruck Hint = true
+unstruck Own = true
+unstruck Struck = false
+
 -- two commands are the same: kind for kind and file for file
 abbrev pub same_command : Command → Command → Bool
 same_command c d = eqb (kind_number c.kind) (kind_number d.kind) && eqb c.a d.a && eqb c.b d.b && eqb c.c d.c && eqb c.d d.d

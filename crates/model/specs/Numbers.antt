@@ -1,4 +1,4 @@
--- The numbers of refusals and of kinds of commands.
+-- The numbers of refusals; the numbers and names of kinds of commands, and how many files each names.
 use Rattle.std.specs.Prelude.{◌≡◌, ℕ, List, cond, Option, Some, None, Ok, Err, Result, codes, ◌==◌}
 use Rattle.model.specs.declared.command.Kind.{Kind}
 use Rattle.model.specs.declared.command.Kind.TheVariants.{Copy, Join, Gather, Choose, Tally, Check}

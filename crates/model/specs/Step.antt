@@ -1,5 +1,6 @@
 -- STEP asks the policy once, and works on the line that it answers: a skip by an own record, or one act.
 use Rattle.std.specs.Prelude.{◌≡◌, ◌&&◌, ◌∷◌}
+use Rattle.std.specs.List.{list_all}
 use Rattle.model.specs.Words.{Bool, true, false, cond, not, List, [], ℕ, zero, suc, eqb, ltb, get_or, set, Option, Some, None, Result, Ok, Err, Command, Entry, Stop, Stepped, StepRefusal}
 use Rattle.model.specs.declared.refusal.Refusal.TheVariants.{LinesEnded, NoRun}
 use Rattle.model.specs.declared.answers.StepRefusal.TheVariants.{By, Stopped}
@@ -26,12 +27,11 @@ all_ended (suc n) es = ended n es && all_ended n es
 
 -- the files hold what was read
 abbrev pub match : List ℕ → List Use → Bool
-match fs [] = true
-match fs (r ∷ rs) = eqb (get_or fs r.file 0) r.number && match fs rs
+match fs rs = list_all (λ r. eqb (get_or fs r.file 0) r.number) rs
 
+-- the pool has every number
 abbrev pub all_held : Pool → List Use → Bool
-all_held p [] = true
-all_held p (r ∷ rs) = holds p r.number && all_held p rs
+all_held p rs = list_all (λ r. holds p r.number) rs
 
 -- an own record, every number of it in the pool, whose reads match the files now
 abbrev pub usable : State → Option Record → Option Record

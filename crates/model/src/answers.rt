@@ -26,7 +26,7 @@ pub enum StepRefusal {
 }
 
 impl From<Refusal> for StepRefusal {
-    ghost use Rattle.std.specs.Prelude.{◌≡◌, Some, decimal};
+    ghost use Rattle.std.specs.Prelude.{◌≡◌};
     ghost use Rattle.model.specs.declared.answers.StepRefusal.TheVariants.{By};
 
     ghost from_gives = { λ refusal why. why ≡ By refusal };

@@ -1,4 +1,4 @@
-ghost use Rattle.std.specs.Prelude.{◌≡◌, Some};
+ghost use Rattle.std.specs.Prelude.{◌≡◌, ◌++◌, Some, codes, decimal};
 ghost use Rattle.model.specs.Book.{same_command, in_script};
 ghost use Rattle.model.specs.Numbers.{kind_number, kind_name, arity, TellsKind};
 
@@ -77,6 +77,8 @@ pub struct UnknownKind {
 }
 
 impl fmt::Display for UnknownKind {
+    ghost output = { λ unknown. Some (codes "no kind has the number " ++ decimal unknown.number) };
+
     fn fmt<W: fmt::Write>(&self, f: &mut fmt::Formatter<W>) -> fmt::Result {
         let number = self.number;
         write!(f, "no kind has the number {number}")
@@ -105,7 +107,7 @@ impl TryFrom<u8> for Kind {
 
 // Kept: four named files, in the order of the line, as the rules and the bytes of a trace file have them.
 /// A command: its kind, and the files that it names in the order of the line. Those that its kind has no use for
-/// are 0.
+/// are 0. `default` is for places that are not used.
 #[derive(Clone, Copy, Debug, Default, PartialEq, Eq)]
 pub struct Command {
     pub kind: Kind,
@@ -115,8 +117,8 @@ pub struct Command {
     pub d: u8,
 }
 
-/// Two commands are the same: `==`, said in the words of the model, so that searches by it need no proof of their own.
 // Kept: the derived `==`, under a name whose contract is the model's word.
+/// Two commands are the same: `==`, said in the words of the model, so that searches by it need no proof of their own.
 pub fn same_command(a: Command, b: Command) -> bool
     ensures { result ≡ same_command a b }
 {

@@ -9,7 +9,7 @@ pub fn file_number(word: &[u8]) -> Option<u8>
     match word {
         [tens @ b'0'..=b'9', units @ b'0'..=b'9'] => {
             let number = (*tens - b'0') * 10 + (*units - b'0');
-            if number < 64 { Some(number) } else { None }
+            (number < 64).then_some(number)
         }
         _ => None,
     }

@@ -1,8 +1,8 @@
 //! The words that every crate of the runner shares, what they mean, and the promise that the runner keeps.
 //!
 //! The meaning stands in `specs/`: what a line does, what an act is, script order, what each call does to the
-//! world, and the promises over every past. Each function here whose name ends in `_stand` or `_stands` says in its contract
-//! that such a promise is proved.
+//! world, and the promises over every past. Each function here whose name ends in `_stand` or `_stands` says in its
+//! contract that such a promise is proved.
 #![tactic(auto)]
 
 ghost use Rattle.model.specs.Promise.{KeptAsScriptOrder, PutBackAsFound, BuildAsScriptOrder, StoppedBuildPutsBack, BeginsAgain, BeginsAnywhere, NoLineStarves, NoLineStarvesInBuilds, OwnRecordsTrue, OneRecordACommand, PoolInRoom};

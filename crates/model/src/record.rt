@@ -37,6 +37,8 @@ pub enum Standing {
 
 // Kept: sixteen places and a count, since records lie in lent memory, copied, and nothing allocates.
 /// What a command did once: the first `count` of `reads`, in order, then `write`.
+///
+/// `==` compares the count and all sixteen places as they stand; two records say the same where `said` agrees.
 #[derive(Clone, Copy, Debug, Default, PartialEq, Eq)]
 pub struct Record {
     pub command: Command,
@@ -52,9 +54,8 @@ impl Record {
         ensures value { result.now ≡ (said self.now).reads }
         ensures few { length result.now ≤ 16 }
     {
-        let room = self.reads[..].len();
-        let count = (self.count as usize).min(16).min(room);
-        &self.reads[0..count]
+        let count = usize::from(self.count).min(16);
+        &self.reads[..count]
     }
 }
 

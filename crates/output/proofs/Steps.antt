@@ -11,9 +11,11 @@ use Rattle.output.proofs.Laid.{laid_append}
 pub then : {a b c : Output} {xs ys : List ℕ} → Writes xs a b → Writes ys b c → Writes (xs ++ ys) a c
 then {a} {b} {c} {xs} {ys} v w =
     let n = v.len in
+    let m = length-append xs ys in
     record {
-      bytes = w.bytes ∙ ap (λ k. laid k ys b.bytes.now) n ∙ ap (laid (a.len + length xs) ys) v.bytes ∙ laid_append a.len xs ys a.bytes.now;
-      len = omega (arith, v.len, w.len, length-append xs ys);
+      fits = omega (arith, w.fits, v.size);
+      bytes = w.bytes ∙ ap (λ k. laid k ys b.bytes.now) n ∙ ap (laid (a.len + length xs) ys) v.bytes ∙ laid_append a.len xs ys a.bytes.now v.fits;
+      len = omega (arith, v.len, w.len);
       size = w.size ∙ v.size;
       same = w.same ∙ v.same;
     }

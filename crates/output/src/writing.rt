@@ -1,8 +1,9 @@
 ghost use Rattle.std.specs.Prelude.{◌≡◌, [], ◌∷◌, length};
-ghost use Rattle.output.specs.Writes.{Room, Writes};
+ghost use Rattle.output.specs.Writes.{buffer, written, Into, Room, Writes};
 
 // Kept: a writer of its own beside the list over lent memory: past the count of a list all is free, and past the end of
-// what is written the bytes stay as they were, which reports and trace files promise.
+// what is written the bytes stay as they were, which reports and trace files promise. Each function that writes says the
+// room that it needs, since no type bounds what is left of a buffer.
 /// A caller's buffer, and how many of its bytes are written.
 #[derive(Drop)]
 pub struct Output<'a> {
@@ -13,16 +14,16 @@ pub struct Output<'a> {
 impl<'a> Output<'a> {
     /// A buffer of which nothing is written.
     pub fn new(bytes: &'a mut [u8]) -> Output<'a>
-        ensures same { result.bytes.ghost_name ≡ bytes.entry.ghost_name }
-        ensures bytes { result.bytes.now ≡ bytes.old }
-        ensures len { result.len ≡ 0 }
+        ensures same { Into bytes.entry.ghost_name result }
+        ensures bytes { buffer result ≡ bytes.old }
+        ensures len { written result ≡ 0 }
     {
         Output { bytes, len: 0 }
     }
 
     /// How many bytes are written.
     pub fn len(&self) -> usize
-        ensures { result ≡ self.now.len }
+        ensures { result ≡ written self.now }
     {
         self.len
     }

@@ -1,4 +1,18 @@
-use lists::Lent;
+use lists::{Change, Lent};
+
+/// The change of a byte to another one.
+#[derive(Clone, Copy)]
+struct Become {
+    byte: u8,
+}
+
+impl Change<u8> for Become {
+    ghost changed = { λ become _. become.byte };
+
+    fn apply(&self, element: &mut u8) {
+        *element = self.byte;
+    }
+}
 
 #[test]
 fn a_list_fills_and_is_cut(rt: HostRuntime) {
@@ -21,7 +35,7 @@ fn an_element_is_changed_where_it_lies(rt: HostRuntime) {
     let mut room = [0u8; 3];
     let mut list = Lent::new(&mut room);
     assert!(rt; list.extend(b"ab"));
-    assert!(rt; list.change(1, |byte| *byte = b'x'));
-    assert!(rt; !list.change(2, |byte| *byte = b'y'));
+    assert!(rt; list.change(1, &Become { byte: b'x' }));
+    assert!(rt; !list.change(2, &Become { byte: b'y' }));
     assert!(rt; list.as_slice() == b"ax".as_slice());
 }

@@ -2,11 +2,6 @@ use files::{FileStore, Image, Table, copy_all};
 use model::Refusal;
 use std::array;
 
-// Kept: the tests keep their values, 0 where nothing is refused.
-fn refusal(answer: Result<(), Refusal>) -> u8 {
-    answer.err().map_or(0, |refusal| refusal.number())
-}
-
 /// Gives each file a number, its own above 256.
 fn give_all<F: FileStore>(store: &mut F) {
     for file in 0..64 {
@@ -24,7 +19,7 @@ fn a_full_image(rt: HostRuntime) {
     assert!(rt; image.bytes()[190..193] == [63, 1, 63]);
     assert_eq!(rt; image.tell(63), 319);
     let mut again = Image::new();
-    assert_eq!(rt; refusal(again.fill(image.bytes())), 0);
+    assert_eq!(rt; again.fill(image.bytes()), Ok(()));
     assert!(rt; again.bytes()[..] == image.bytes()[..]);
     let mut back = Table::new();
     copy_all(&again, &mut back);
@@ -67,12 +62,21 @@ fn begins(first: &[u8]) -> [u8; 193] {
 fn refused_images(rt: HostRuntime) {
     let mut image = Image::new();
     image.set(5, 1);
-    assert_eq!(rt; refusal(image.fill(&[0; 192])), 6);
-    assert_eq!(rt; refusal(image.fill(&[255; 194])), 6);
-    assert_eq!(rt; refusal(image.fill(&begins(&[2, 9, 0, 1, 2, 0, 1]))), 7);
-    assert_eq!(rt; refusal(image.fill(&begins(&[1, 9, 0, 0]))), 7);
-    assert_eq!(rt; refusal(image.fill(&begins(&[1, 64, 0, 1]))), 7);
-    assert_eq!(rt; refusal(image.fill(&begins(&[0, 0, 1]))), 7);
-    assert_eq!(rt; refusal(image.fill(&begins(&[65]))), 7);
+    assert_eq!(rt; image.fill(&[0; 192]), Err(Refusal::ImageSize));
+    assert_eq!(rt; image.fill(&[255; 194]), Err(Refusal::ImageSize));
+    assert_eq!(rt;
+        image.fill(&begins(&[2, 9, 0, 1, 2, 0, 1])),
+        Err(Refusal::ImageLayout)
+    );
+    assert_eq!(rt;
+        image.fill(&begins(&[1, 9, 0, 0])),
+        Err(Refusal::ImageLayout)
+    );
+    assert_eq!(rt;
+        image.fill(&begins(&[1, 64, 0, 1])),
+        Err(Refusal::ImageLayout)
+    );
+    assert_eq!(rt; image.fill(&begins(&[0, 0, 1])), Err(Refusal::ImageLayout));
+    assert_eq!(rt; image.fill(&begins(&[65])), Err(Refusal::ImageLayout));
     assert_eq!(rt; image.tell(5), 1);
 }

@@ -1,6 +1,7 @@
 -- The highest line that passes a test, as the first that is found from above.
-use Rattle.std.proofs.Common.{◌≡◌, ℕ, zero, suc, Bool, true, false, cond, List, [], ◌∷◌, Some, None, Option, refl, ap, ◌∙◌, arith}
+use Rattle.std.proofs.Common.{◌≡◌, ℕ, zero, suc, Bool, true, false, cond, List, [], ◌∷◌, Some, Option, sym, refl, ap, ◌∙◌, arith}
 use Rattle.std.proofs.lemmas.Iterator.{YieldsList}
+use Rattle.std.proofs.lemmas.Iterator.Adapters.{option_map_id}
 use Rattle.std.proofs.iter.runs.Sources.{nat_range_steps_back}
 use Rattle.std.specs.Iterator.{AlwaysYields}
 use Rattle.std.specs.Iterator.Adapters.{rev_source, rev_steps}
@@ -35,8 +36,4 @@ found_down test (suc n) d = by (test n) (found_down test n d)
 
 -- the highest line that passes a test is the first that is found from above
 pub highest_found : (test : ℕ → Bool) (n d : ℕ) (o : Option ℕ) → option_map (λ x. x) o ≡ find test (down n) → unwrap_or o d ≡ highest test n d
-highest_found test n d o e = same o ∙ ap (λ p. unwrap_or p d) e ∙ found_down test n d
-  where
-    same : (o : Option ℕ) → unwrap_or o d ≡ unwrap_or (option_map (λ x. x) o) d
-    same None = refl
-    same (Some x) = refl
+highest_found test n d o e = ap (λ p. unwrap_or p d) (sym (option_map_id o) ∙ e) ∙ found_down test n d

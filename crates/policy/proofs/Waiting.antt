@@ -8,7 +8,11 @@ use Rattle.std.specs.List.{slice_get}
 use Rattle.model.specs.Records.{Record, said}
 use Rattle.model.specs.declared.command.Command.{Command}
 use Rattle.model.specs.declared.record.Record as Code
-use Rattle.policy.specs.Waiting.{finds_by, finds, waits_by, waits_at, waits_on}
+use Rattle.policy.specs.Waiting.{finds_by, finds, waits_by, waits_on}
+
+-- who waits on whom by the place in a table with 64 places a line, given what each line finds
+abbrev pub waits_at : List (Option Code.Record) → ℕ → Bool
+waits_at all at = waits_by (option_map said (get_or all (at / 64) None)) (option_map said (get_or all (at % 64) None))
 
 nth_take : {X : Type 0} (n k : ℕ) (xs : List X) → k < n → slice_get (take n xs) k ≡ slice_get xs k
 nth_take zero k xs h = absurd (omega arith)

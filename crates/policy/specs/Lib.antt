@@ -1,3 +1,4 @@
 pub mod Lines
 pub mod Waiting
 pub mod Choices
+pub mod Patiences

@@ -1,26 +1,17 @@
 -- Who waits on whom, as the records of the last run tell.
-use Rattle.std.specs.Prelude.{ℕ, ◌+◌, ◌*◌, ◌/◌, ◌%◌, Bool, true, false, not, ◌&&◌, ◌||◌, List, Some, None, Option, ◌==◌, nat_le, nat_lt, slice_index_or}
-use Rattle.std.specs.Option.{option_map}
+use Rattle.std.specs.Prelude.{ℕ, ◌+◌, ◌*◌, Bool, true, false, cond, not, ◌&&◌, ◌||◌, List, Some, None, Option, ◌==◌, nat_le, nat_lt, slice_index_or}
 use Rattle.std.specs.List.{slice_get, list_any}
-use Rattle.model.specs.Book.{record_of}
-use Rattle.model.specs.Records.{Record, said}
+use Rattle.model.specs.Book.{unstruck, record_of}
+use Rattle.model.specs.Records.{Record}
 use Rattle.model.specs.declared.command.Command.{Command}
-use Rattle.model.specs.declared.record.Record as Code
-use Rattle.model.specs.declared.record.Standing.{Standing}
-use Rattle.model.specs.declared.record.Standing.TheVariants.{Hint, Own, Struck}
 use Rattle.model.specs.declared.record.Use.{Use}
 use Rattle.policy.specs.Lines.{some_below}
 use Rattle.policy.specs.declared.waits.Waits.{Waits}
 
 -- a record counts as none if it is struck
-abbrev pub by_standing : Standing → Record → Option Record
-by_standing Hint r = Some r
-by_standing Own r = Some r
-by_standing Struck r = None
-
 abbrev pub unless_struck : Option Record → Option Record
 unless_struck None = None
-unless_struck (Some r) = by_standing r.standing r
+unless_struck (Some r) = cond (unstruck r.standing) (Some r) None
 
 -- the record that a line finds; what is no line of the script has no command, and so no record
 abbrev pub finds_by : List Record → Option Command → Option Record
@@ -43,10 +34,6 @@ waits_by (Some r) (Some e) = reads_file e.write.file r.reads
 -- a line waits on another line
 abbrev pub waits_on : List Command → List Record → ℕ → ℕ → Bool
 waits_on cs rs line earlier = nat_lt earlier line && waits_by (finds cs rs line) (finds cs rs earlier)
-
--- the same by the place in a table with 64 places a line, given what each line finds
-abbrev pub waits_at : List (Option Code.Record) → ℕ → Bool
-waits_at all at = waits_by (option_map said (slice_index_or all (at / 64) None)) (option_map said (slice_index_or all (at % 64) None))
 
 -- who waits on whom in a table with 64 places a line; what is no line waits on all earlier ones
 abbrev pub waits : Waits → ℕ → ℕ → Bool

@@ -6,12 +6,13 @@ ghost use Rattle.policy.specs.Waiting.{waits};
 use crate::line_set::LineSet;
 use crate::waits::Waits;
 
-/// Which line a policy would choose: with a patience, this is all that a policy is.
 // Kept: a closure has no name, and `HighestFirst` and `LastRun` are types that callers name.
+/// Which line a policy would choose: with a patience, this is all that a policy is.
 pub trait Choice {
     ghost line: { Self → (ℕ → Bool) → ℕ → ℕ → ℕ → ℕ };
 
-    /// The line that is chosen of a set and its front: what is answered by it is the policy's answer.
+    /// The line to choose from a set with this front. Taken where the patience allows it, it gives the answer that `line`
+    /// says.
     fn choose(&self, among: &LineSet, front: u8) -> u8
         ensures { (patience passes : ℕ) → answer (has among.now) front patience passes result ≡ line self.now (has among.now) front patience passes };
 }

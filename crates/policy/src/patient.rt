@@ -1,6 +1,7 @@
 ghost use Rattle.std.specs.Prelude.{◌≡◌, min};
 ghost use Rattle.model.specs.Policies.{Answered};
 ghost use Rattle.policy.specs.Lines.{has};
+ghost use Rattle.policy.specs.Patiences.{patience_of, passes_of, choice_of};
 ghost use Rattle.std.proofs.Common.{rules};
 
 use crate::choice::Choice;
@@ -18,9 +19,9 @@ pub struct Patient<C> {
 impl<C> Patient<C> {
     /// The policy of a choice, with no pass so far. A patience above 32 counts as 32.
     pub fn with_choice(patience: u8, choice: C) -> Patient<C>
-        ensures patience { result.patience.limit ≡ min patience 32 }
-        ensures passes { result.patience.passes ≡ 0 }
-        ensures choice { result.choice ≡ choice }
+        ensures patience { patience_of result ≡ min patience 32 }
+        ensures passes { passes_of result ≡ 0 }
+        ensures choice { choice_of result ≡ choice }
     {
         Patient {
             patience: Patience::new(patience),
@@ -30,19 +31,19 @@ impl<C> Patient<C> {
 }
 
 impl<C: Choice> Policy for Patient<C> {
-    ghost patience = { λ p. p.patience.limit };
+    ghost patience = { patience_of };
 
-    ghost passes = { λ p. p.patience.passes };
+    ghost passes = { passes_of };
 
     ghost patient = { Prim.search rules };
 
     ghost within = { Prim.search rules };
 
     fn ask(&mut self, among: &LineSet, front: u8) -> u8
-        ensures answers { Answered (has among.now) front result (record { patience = self.old.patience.limit; before = self.old.patience.passes; after = self.new.patience.passes }) }
-        ensures same { self.new.patience.limit ≡ self.old.patience.limit }
-        ensures line { result ≡ C.Choice.line self.old.choice (has among.now) front self.old.patience.limit self.old.patience.passes }
-        ensures choice { self.new.choice ≡ self.old.choice }
+        ensures answers { Answered (has among.now) front result (record { patience = patience_of self.old; before = passes_of self.old; after = passes_of self.new }) }
+        ensures same { patience_of self.new ≡ patience_of self.old }
+        ensures line { result ≡ C.Choice.line (choice_of self.old) (has among.now) front (patience_of self.old) (passes_of self.old) }
+        ensures choice { choice_of self.new ≡ choice_of self.old }
     {
         let choice = self.choice.choose(among, front);
         self.patience.settle(among, front, choice)

@@ -5,9 +5,9 @@ ghost use Rattle.policy.specs.Lines.{has};
 
 use crate::line_set::LineSet;
 
+// Kept: the trait by which users bring a policy of their own, with its laws.
 /// Who acts next. A policy means two numbers: its patience, which never changes, and how often in a row it has just
 /// passed the front by. Whatever else it is, nobody relies on more.
-// Kept: the trait by which users bring a policy of their own, with its laws.
 pub trait Policy {
     ghost patience: { Self → ℕ };
 

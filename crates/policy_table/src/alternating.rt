@@ -11,6 +11,7 @@ pub struct Alternating {
 }
 
 impl Alternating {
+    /// It has not passed a front by.
     pub fn new() -> Alternating
         ensures { result.passes ≡ 0 }
     {

@@ -7,7 +7,7 @@ mod script;
 ghost use Rattle.std.specs.Prelude.{◌≤◌};
 
 use alternating::Alternating;
-use policy::{HighestFirst, LastRun, LineSet, Policy, ScriptOrder, passes_until_front};
+use policy::{HighestFirst, LineSet, Policy, ScriptOrder, passes_until_front};
 use std::io;
 
 const PATIENCE: u8 = 2;

@@ -1,10 +1,11 @@
 -- One content more: its bytes lie past those of the others, which stay.
-use Rattle.std.proofs.Common.{◌≡◌, ℕ, zero, suc, ◌+◌, ◌-◌, ◌<◌, ◌≤◌, false, ◌≢◌, List, [], ◌∷◌, ◌++◌, map, length, get_or, take, drop, set, sym, refl, ap, ◌∙◌, subst, inl, inr, arith, below_more}
+use Rattle.std.proofs.Common.{◌≡◌, ℕ, suc, ◌+◌, ◌-◌, ◌<◌, ◌≤◌, false, ◌≢◌, List, [], ◌∷◌, ◌++◌, map, length, get_or, take, drop, set, sym, refl, ap, ◌∙◌, subst, inl, inr, arith, below_more}
 use borrow.Rule.Slice.PartMut.{put_mid}
 use Rattle.std.proofs.lemmas.List.{drop-take, take-take, take_more_set, map_push, get_or-set_same, get_or-set_other, length-take-le, get_or-take, take-set-le, length_push, get_or_append_left, get_or_push}
-use Rattle.std.proofs.lemmas.Slice.{take-put_mid_below, between-put_mid}
+use Rattle.std.proofs.lemmas.List.Folds.{list_any_at}
+use Rattle.std.proofs.lemmas.Slice.{between-put_mid}
 use Rattle.std.proofs.lemmas.Slice.Eq.{bytes_eq-Decides}
-use Rattle.std.proofs.lemmas.Bool.{or_parts, both_ways, cases_eq}
+use Rattle.std.proofs.lemmas.Bool.{both_ways, cases_eq}
 use Rattle.std.specs.Str.{bytes_eq}
 use Rattle.model.specs.Contents.{mem}
 use Rattle.pool.specs.Pieces.{piece, pieces, nowhere, total}
@@ -41,9 +42,6 @@ pieces_added bs bs' c u n ps ok inside e f =
     ∙ ap (λ y. pieces bs n ps ++ y ∷ []) f
 
 -- the bytes after the copy
-pub copied_front : (bs ys : List ℕ) (u k : ℕ) → u ≤ length bs → take u (put_mid u k bs ys) ≡ take u bs
-copied_front bs ys u k h = take-put_mid_below u k bs ys u (omega arith) h
-
 pub copied_piece : (bs ys c : List ℕ) (u : ℕ) → u ≤ length bs → ys ≡ c → take (length c) (drop u (put_mid u (u + length c - u) bs ys)) ≡ c
 copied_piece bs ys c u h e =
     let n : u + length c - u ≡ length c = omega arith in
@@ -74,9 +72,8 @@ short_added u m n ps ok short low =
 
 -- no two are equal: the new content is none of the others
 mem_absent : (xs : List (List ℕ)) (c : List ℕ) → mem c xs ≡ false → (k : ℕ) → k < length xs → get_or xs k [] ≡ c → ⊥
-mem_absent [] c e k h same = omega arith
-mem_absent (x ∷ xs) c e zero h same = both_ways (bytes_eq c x) (or_parts (bytes_eq c x) (mem c xs) e).0 ((bytes_eq-Decides c x).1 (sym same))
-mem_absent (x ∷ xs) c e (suc k) h same = mem_absent xs c (or_parts (bytes_eq c x) (mem c xs) e).1 k (omega arith) same
+mem_absent xs c e k h same =
+    both_ways (mem c xs) e (list_any_at (bytes_eq c) xs k [] h ((bytes_eq-Decides c (get_or xs k [])).1 (sym same)))
 
 pub apart_added : (xs ys : List (List ℕ)) (c : List ℕ) → mem c xs ≡ false → ys ≡ xs ++ c ∷ [] → Apart xs → Apart ys
 apart_added xs ys c none e apart =

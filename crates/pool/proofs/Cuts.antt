@@ -1,15 +1,11 @@
--- A pool that is cut back, or is not since it has no more contents.
-use Rattle.std.proofs.Common.{◌≡◌, ℕ, ◌<◌, ◌≤◌, List, [], length, get_or, take, sym, ap, ◌∙◌, arith}
-use Rattle.std.proofs.lemmas.List.{take_all, length-take, get_or-take}
+-- A pool that is cut back to its first contents.
+use Rattle.std.proofs.Common.{◌≡◌, ℕ, ◌<◌, List, [], length, get_or, take, sym, ap, ◌∙◌, arith}
+use Rattle.std.proofs.lemmas.List.{length-take, get_or-take}
 use Rattle.model.specs.Contents.{Content, Pool, cut}
 use Rattle.pool.specs.Sound.{Apart}
 
 unfoldable pub with_contents : Pool → List Content → Pool
 with_contents p cs = record { contents = cs; places = p.places; room = p.room }
-
-pub cut_none : (p : Pool) (k : ℕ) → length p.contents ≤ k → p ≡ cut k p
-unfolding with_contents
-cut_none p k h = ap (with_contents p) (sym (take_all k p.contents h))
 
 -- a pool whose contents are the first of another's
 pub cut_is : (p : Pool) (cs : List Content) (k : ℕ) → take k p.contents ≡ cs → record { contents = cs; places = p.places; room = p.room } ≡ cut k p

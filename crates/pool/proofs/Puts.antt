@@ -38,22 +38,13 @@ unfolding with_contents
 put_known p x n e ne =
     ap (with_contents p) (sym (cond-true (mem x p.contents) p.contents (cond (fits p x) (p.contents ++ x ∷ []) p.contents) (mem_some x p.contents (λ z. ne (e ∙ z)))))
 
--- another content, for which there is no room
-pub given_none : (p : Pool) (x : Content) → mem x p.contents ≡ false → fits p x ≡ false → given p x ≡ 0
-given_none p x m f =
-    cond-false (mem x p.contents) (find x p.contents) (cond (fits p x) (length p.contents + 1) 0) m ∙ cond-false (fits p x) (length p.contents + 1) 0 f
-
--- another content, for which there is room
-pub given_fresh : (p : Pool) (x : Content) → mem x p.contents ≡ false → fits p x ≡ true → length p.contents + 1 ≡ given p x
-given_fresh p x m f =
-    sym (cond-false (mem x p.contents) (find x p.contents) (cond (fits p x) (length p.contents + 1) 0) m ∙ cond-true (fits p x) (length p.contents + 1) 0 f)
-
 same_pool : (p q : Pool) → p.contents ≡ q.contents → p.places ≡ q.places → p.room ≡ q.room → p ≡ q
 same_pool p q a b c =
     ap (λ x. record { contents = x; places = p.places; room = p.room }) a
     ∙ ap (λ x. record { contents = q.contents; places = x; room = p.room }) b
     ∙ ap (λ x. record { contents = q.contents; places = q.places; room = x }) c
 
+-- another content, for which there is room
 pub put_fresh : (p q : Pool) (x : Content) → mem x p.contents ≡ false → fits p x ≡ true → q.contents ≡ p.contents ++ x ∷ [] → q.places ≡ p.places → q.room ≡ p.room → q ≡ put p x
 unfolding with_contents
 put_fresh p q x m f cs places room =

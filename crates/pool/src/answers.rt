@@ -1,3 +1,5 @@
+ghost use Rattle.std.specs.Prelude.{Some, codes};
+
 use std::error::Error;
 use std::fmt;
 
@@ -14,7 +16,7 @@ pub struct Found {
     pub number: u16,
 }
 
-// Kept: a rule of the project: each question of the pool has an answer with a name of its own.
+// Kept: a struct of its own, since more will be told later (docs/DECISIONS.md).
 /// The number that a content has, which was put or was there.
 #[derive(Clone, Copy, Debug, PartialEq, Eq)]
 pub struct Put {
@@ -26,11 +28,10 @@ pub struct Put {
 pub struct NoRoom;
 
 impl fmt::Display for NoRoom {
+    ghost output = { λ _. Some (codes "the content is over 4,096 bytes, or no place or too few bytes are left") };
+
     fn fmt<W: fmt::Write>(&self, f: &mut fmt::Formatter<W>) -> fmt::Result {
-        write!(
-            f,
-            "the content is over 4,096 bytes, or no place or too few bytes are left"
-        )
+        f.write_str("the content is over 4,096 bytes, or no place or too few bytes are left")
     }
 }
 

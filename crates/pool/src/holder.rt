@@ -6,7 +6,8 @@ use crate::Place;
 
 mod methods;
 
-// Kept: lent memory, of which the pool counts what it uses; nothing in the library allocates.
+// Kept: lent memory, since nothing in the library allocates; and no two `Lent`, since the pool tests the room of both
+// before it writes, and a `Lent` would test it again and answer it.
 /// Contents, numbered from 1 in order of arrival, over lent bytes and lent places. No two are equal.
 ///
 /// It uses up to 65,536 bytes and 1,024 places of what it is lent.

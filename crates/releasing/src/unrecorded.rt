@@ -1,6 +1,7 @@
 ghost use Rattle.std.specs.Prelude.{◌≡◌, ℕ, min, nat_lt};
 ghost use Rattle.model.specs.Policies.{Answered};
 ghost use Rattle.policy.specs.Lines.{has};
+ghost use Rattle.policy.specs.Patiences.{patience_of, passes_of, choice_of};
 ghost use Rattle.policy.specs.Waiting.{waits};
 ghost use Rattle.std.proofs.Common.{rules, arith};
 
@@ -12,14 +13,16 @@ use policy::{LastRun, LineSet, Policy};
 #[derive(Clone, Copy, Debug, PartialEq, Eq)]
 pub struct Unrecorded {
     policy: LastRun,
-    ghost waiting: { (line earlier : ℕ) → waits policy.choice line earlier ≡ nat_lt earlier line },
+    ghost waiting: { (line earlier : ℕ) → waits (choice_of policy) line earlier ≡ nat_lt earlier line },
 }
 
 impl Unrecorded {
+    ghost use Rattle.releasing.specs.Unrecorded.{last_run_of};
+
     /// Primed from the commands of a script and no record. A patience above 32 counts as 32.
     pub fn new(patience: u8, commands: &[Command]) -> Unrecorded
-        ensures patience { result.policy.patience.limit ≡ min patience 32 }
-        ensures passes { result.policy.patience.passes ≡ 0 }
+        ensures patience { patience_of (last_run_of result) ≡ min patience 32 }
+        ensures passes { passes_of (last_run_of result) ≡ 0 }
     {
         Unrecorded {
             policy: LastRun::new(patience, commands, &[]),
@@ -36,7 +39,7 @@ impl Policy for Unrecorded {
 
     ghost within = { first_of (Prim.search rules, Prim.grind (arith, Self.row.coded.inj)) };
 
-    // Kept: another policy than script order, that promises the same of a book without records.
+    // Kept: the clauses of `ScriptOrder::ask`, but it asks the last-run policy, as `release` is to.
     fn ask(&mut self, among: &LineSet, front: u8) -> u8
         ensures answers { Answered (has among.now) front result (record { patience = 0; before = 0; after = 0 }) }
         ensures same { ◌≡◌ {A = ℕ} 0 0 }

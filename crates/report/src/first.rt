@@ -1,5 +1,5 @@
 ghost use Rattle.std.specs.Prelude.{◌≡◌, ◌+◌, ◌≤◌, [], ◌∷◌, ◌++◌, length, Ok, Err};
-ghost use Rattle.output.specs.Writes.{Room, Writes};
+ghost use Rattle.output.specs.Writes.{written, Room, Writes};
 ghost use Rattle.report.specs.Report.{kind_word, where_stopped, first_words};
 
 // Kept throughout: each part says the room that it needs, 60 bytes for a whole first line: no type has a bound for it.
@@ -26,7 +26,7 @@ fn word_of(kind: HazardKind) -> &'static [u8]
 fn put_hazard(out: &mut Output, hazard: Hazard)
     requires { Room 40 out.old }
     ensures written { Writes (where_stopped 0 (Fault.Hazard hazard)) out.old out.new }
-    ensures short { out.new.len ≤ out.old.len + 40 }
+    ensures short { written out.new ≤ written out.old + 40 }
 {
     out.put_byte(b' ');
     out.put(word_of(hazard.kind));
@@ -41,7 +41,7 @@ fn put_hazard(out: &mut Output, hazard: Hazard)
 fn put_where(out: &mut Output, stop: Stop)
     requires { Room 40 out.old }
     ensures written { Writes (where_stopped stop.line stop.fault) out.old out.new }
-    ensures short { out.new.len ≤ out.old.len + 40 }
+    ensures short { written out.new ≤ written out.old + 40 }
 {
     match stop.fault {
         Fault::Hazard(hazard) => put_hazard(out, hazard),
@@ -56,7 +56,7 @@ fn put_where(out: &mut Output, stop: Stop)
 fn put_kept(out: &mut Output, built: Built)
     requires { Room 60 out.old }
     ensures written { Writes (first_words (Ok built)) out.old out.new }
-    ensures short { out.new.len ≤ out.old.len + 55 }
+    ensures short { written out.new ≤ written out.old + 55 }
 {
     out.put(b"kept executed");
     put_number(out, built.executed as u16);
@@ -69,7 +69,7 @@ fn put_kept(out: &mut Output, built: Built)
 fn put_stopped(out: &mut Output, stop: Stop, built: Built)
     requires { Room 60 out.old }
     ensures written { Writes (first_words (Err (BuildRefusal.Stopped stop built))) out.old out.new }
-    ensures short { out.new.len ≤ out.old.len + 55 }
+    ensures short { written out.new ≤ written out.old + 55 }
 {
     out.put(b"stopped");
     put_number(out, stop.fault.refusal().number() as u16);
@@ -81,7 +81,7 @@ fn put_stopped(out: &mut Output, stop: Stop, built: Built)
 fn put_refused(out: &mut Output, refusal: Refusal)
     requires { Room 60 out.old }
     ensures written { Writes (first_words (Err (BuildRefusal.By refusal))) out.old out.new }
-    ensures short { out.new.len ≤ out.old.len + 55 }
+    ensures short { written out.new ≤ written out.old + 55 }
 {
     out.put(b"refused");
     put_number(out, refusal.number() as u16);
@@ -91,7 +91,7 @@ fn put_refused(out: &mut Output, refusal: Refusal)
 fn put_outcome(out: &mut Output, outcome: Result<Built, BuildRefusal>)
     requires { Room 60 out.old }
     ensures written { Writes (first_words outcome) out.old out.new }
-    ensures short { out.new.len ≤ out.old.len + 55 }
+    ensures short { written out.new ≤ written out.old + 55 }
 {
     match outcome {
         Ok(built) => put_kept(out, built),
@@ -104,7 +104,7 @@ fn put_outcome(out: &mut Output, outcome: Result<Built, BuildRefusal>)
 pub(crate) fn put_first(out: &mut Output, outcome: Result<Built, BuildRefusal>)
     requires { Room 60 out.old }
     ensures written { Writes (first_words outcome ++ 10 ∷ []) out.old out.new }
-    ensures short { out.new.len ≤ out.old.len + 56 }
+    ensures short { written out.new ≤ written out.old + 56 }
 {
     put_outcome(out, outcome);
     out.put_byte(b'\n');

@@ -1,5 +1,5 @@
 ghost use Rattle.std.specs.Prelude.{◌+◌, ◌≤◌, [], ◌∷◌, ◌++◌, length};
-ghost use Rattle.output.specs.Writes.{Room, Writes};
+ghost use Rattle.output.specs.Writes.{written, Room, Writes};
 ghost use Rattle.report.specs.Report.{label_word, file_words};
 
 use crate::numbers::{put_file, put_number};
@@ -10,7 +10,7 @@ fn put_label(out: &mut Output, label: &[u8])
     requires short { length label.now ≤ 16 }
     requires room { Room 16 out.old }
     ensures written { Writes (label_word label.now) out.old out.new }
-    ensures short { out.new.len ≤ out.old.len + 16 }
+    ensures short { written out.new ≤ written out.old + 16 }
 {
     if label.is_empty() {
         out.put_byte(b'-');
@@ -26,7 +26,7 @@ pub(crate) fn put_held(out: &mut Output, file: u8, label: &[u8], size: u16)
     requires size { size ≤ 4096 }
     requires room { Room 25 out.old }
     ensures written { Writes (file_words file label.now size ++ 10 ∷ []) out.old out.new }
-    ensures short { out.new.len ≤ out.old.len + 25 }
+    ensures short { written out.new ≤ written out.old + 25 }
 {
     put_file(out, file);
     out.put_byte(b' ');

@@ -1,7 +1,7 @@
 ghost use Rattle.std.specs.Prelude.{◌≡◌, ◌+◌, ◌≤◌, [], length, if◌then◌else◌, Ok, Err, nat_lt, slice_index, slice_index_or};
 ghost use Rattle.model.specs.Contents.{told};
 ghost use Rattle.model.specs.declared.refusal.Refusal.TheVariants.{ReportBufferShort};
-ghost use Rattle.output.specs.Writes.{laid, Room, Writes};
+ghost use Rattle.output.specs.Writes.{written, laid, Room, Writes};
 ghost use Rattle.pool.specs.Contents.{meant};
 ghost use Rattle.script.specs.Scripts.{meaning};
 ghost use Rattle.report.specs.Report.{held_line, file_lines, report_bytes};
@@ -14,6 +14,9 @@ use output::Output;
 use pool::Pool;
 use script::Script;
 
+// Kept throughout: script, files and pool are borrowed from three owners; a struct of them would be made for three
+// private functions.
+
 /// The least length of a buffer for a report: every report fits it.
 const LEAST: usize = 2048;
 
@@ -21,7 +24,7 @@ const LEAST: usize = 2048;
 fn put_file_line<F: FileStore>(out: &mut Output, file: u8, script: &Script, files: &F, pool: &Pool)
     requires { Room 25 out.old }
     ensures written { Writes (held_line file (slice_index_or (meaning script.now).labels file []) (told (meant pool.now) (slice_index (F.FileStore.map files.now) file))) out.old out.new }
-    ensures short { out.new.len ≤ out.old.len + 25 }
+    ensures short { written out.new ≤ written out.old + 25 }
 {
     let number = files.tell(file);
     if pool.holds(number) {
@@ -34,7 +37,7 @@ fn put_file_line<F: FileStore>(out: &mut Output, file: u8, script: &Script, file
 fn put_file_lines<F: FileStore>(out: &mut Output, script: &Script, files: &F, pool: &Pool)
     requires { Room 1600 out.old }
     ensures written { Writes (file_lines (meaning script.now).labels (meant pool.now) 0 (F.FileStore.map files.now)) out.old out.new }
-    ensures short { out.new.len ≤ out.old.len + 1600 }
+    ensures short { written out.new ≤ written out.old + 1600 }
 {
     for file in 0..64u8 {
         put_file_line(out, file, script, files, pool);
@@ -49,9 +52,9 @@ fn put_report<F: FileStore>(
     files: &F,
     pool: &Pool,
 )
-    requires { Room 1660 out.old }
+    requires { Room 1656 out.old }
     ensures written { Writes (report_bytes outcome (meaning script.now).labels (meant pool.now) (F.FileStore.map files.now)) out.old out.new }
-    ensures short { out.new.len ≤ out.old.len + 1660 }
+    ensures short { written out.new ≤ written out.old + 1656 }
 {
     put_first(out, outcome);
     put_file_lines(out, script, files, pool);

@@ -2,6 +2,7 @@
 use Rattle.std.proofs.Common.{◌≡◌, ℕ, zero, suc, true, false, List, [], ◌∷◌, map, set, Some, None, Ok, Err, Option, sym, refl, ap, ◌∙◌, subst}
 use Rattle.std.specs.Option.{option_map}
 use Rattle.std.specs.List.{slice_get}
+use Rattle.lists.specs.Altered.{altered}
 use Rattle.model.specs.Audit.{finding, judged, at_place, Audited}
 use Rattle.model.specs.Calls.{on_audit}
 use Rattle.model.specs.Contents.{Pool}
@@ -21,10 +22,12 @@ at_said (x ∷ xs) zero = refl
 at_said (x ∷ xs) (suc k) = at_said xs k
 
 -- a record with the standing that is found is the judged one
-pub judged_said : (s : Standing) (xs : List Code.Record) (k : ℕ) (x : Code.Record) (p : Pool) → s ≡ finding p (said x) → map said (set xs k (stands_as s x)) ≡ set (map said xs) k (judged p (said x))
-judged_said s [] k x p f = refl
-judged_said s (y ∷ ys) zero x p f = rw f refl
-judged_said s (y ∷ ys) (suc k) x p f = ap (λ l. said y ∷ l) (judged_said s ys k x p f)
+pub judged_said : (s : Standing) (xs : List Code.Record) (k : ℕ) (x : Code.Record) (p : Pool) → Some x ≡ slice_get xs k → s ≡ finding p (said x) → map said (altered (stands_as s) xs k) ≡ set (map said xs) k (judged p (said x))
+judged_said s [] k x p e f = refl
+judged_said s (y ∷ ys) zero x p e f =
+    let same : x ≡ y = cc in
+    rw (f, ← same) refl
+judged_said s (y ∷ ys) (suc k) x p e f = ap (λ l. said y ∷ l) (judged_said s ys k x p e f)
 
 module _ (k : ℕ) (w v : World) where
   pub open_now : true ≡ w.is_open → v ≡ w → Promised (on_audit k (Err RunOpen)) w v
@@ -40,9 +43,9 @@ module _ (k : ℕ) (w v : World) where
           does = while_shut (Err NoSuchRecord) w v (Audited k (at_place w.records k) (Err NoSuchRecord) w v) shut (subst (λ o. Audited k o (Err NoSuchRecord) w v) (sym (place_is None e)) (refl, same));
         })
 
-    pub judges : (x : Code.Record) (s : Standing) → Some x ≡ slice_get xs k → s ≡ finding w.pool (said x) → v ≡ stocked w w.files w.pool (map said (set xs k (stands_as s x))) → Promised (on_audit k (Ok s)) w v
+    pub judges : (x : Code.Record) (s : Standing) → Some x ≡ slice_get xs k → s ≡ finding w.pool (said x) → v ≡ stocked w w.files w.pool (map said (altered (stands_as s) xs k)) → Promised (on_audit k (Ok s)) w v
     judges x s e f is =
-        let new = judged_said s xs k x w.pool f ∙ ap (λ rs. set rs k (judged w.pool (said x))) (sym are) in
+        let new = judged_said s xs k x w.pool e f ∙ ap (λ rs. set rs k (judged w.pool (said x))) (sym are) in
         promised (record {
           does = while_shut (Ok s) w v (Audited k (at_place w.records k) (Ok s) w v) shut (subst (λ o. Audited k o (Ok s) w v) (sym (place_is (Some x) e)) (ap Ok f, is ∙ ap (stocked w w.files w.pool) new));
         })

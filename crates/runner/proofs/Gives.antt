@@ -1,8 +1,7 @@
 -- Each line of a run gives its record to the book: it has at most sixteen reads, and what is left gives the records.
-use Rattle.std.proofs.Common.{◌≡◌, ℕ, suc, ◌+◌, ◌-◌, ◌<◌, ◌≤◌, Bool, true, false, cond, ◌&&◌, ◌||◌, eqb, List, [], ◌∷◌, length, get_or, take, drop, sym, refl, ap, ◌∙◌, arith}
-use Rattle.std.proofs.lemmas.List.{at_drop_more, at_drop_all, length-take-le}
+use Rattle.std.proofs.Common.{◌≡◌, ℕ, suc, ◌+◌, ◌≤◌, Bool, true, false, cond, ◌&&◌, ◌||◌, eqb, List, [], ◌∷◌, length, drop, ap, ◌∙◌, arith}
 use Rattle.lists.specs.Held.{held, room}
-use Rattle.model.specs.Book.{use_of, reads_of, recorded, keep, keeps}
+use Rattle.model.specs.Book.{use_of, reads_of, keeps}
 use Rattle.model.specs.Contents.{Pool}
 use Rattle.model.specs.Hazards.{ended}
 use Rattle.model.specs.Records.{Record}
@@ -40,34 +39,6 @@ few_reads l es h = few_by (ended l es) (length (reads_of l es)) (made l es) (rea
 pub record Given (cs : List Command) (es : List Entry) (b b' : Book) (line : ℕ) : Type 0 where
   pub rest : keeps cs (places b) es line (drop line cs) (records b') ≡ keeps cs (places b) es 0 cs (records b)
   pub room : places b' ≡ places b
-
-pub given_none : (cs : List Command) (es : List Entry) (b : Book) → Given cs es b b 0
-given_none cs es b = record { rest = refl; room = refl }
-
-module _ (cs : List Command) (es : List Entry) (b b' : Book) (line : ℕ) (inv : Given cs es b b' line) where
-  pub given_more : (d : Command) (q : Record) (b'' : Book) → line < length cs → q ≡ recorded line (get_or cs line d) es → records b'' ≡ keep cs (places b') q (records b') → places b'' ≡ places b' → Given cs es b b'' (line + 1)
-  given_more d q b'' h e f g =
-      let n = places b in
-      let z : line + 1 ≡ suc line = omega arith in
-      record {
-        rest =
-            ap (λ k. keeps cs n es k (drop (line + 1) cs) (records b'')) z
-            ∙ ap (keeps cs n es (suc line) (drop (line + 1) cs))
-            (f ∙ ap (λ k. keep cs k q (records b')) inv.room ∙ ap (λ x. keep cs n x (records b')) e)
-            ∙ sym (at_drop_more (λ xs. keeps cs n es line xs (records b')) cs line d h)
-            ∙ inv.rest;
-        room = g ∙ inv.room;
-      }
-
-  pub given_all : length cs ≤ line → records b' ≡ keeps cs (places b) es 0 cs (records b)
-  given_all h = sym (at_drop_all (λ xs. keeps cs (places b) es line xs (records b')) cs line h) ∙ inv.rest
-
--- the commands of a run, as a part from the start of their places
-pub front : {X : Type 0} (n : ℕ) (xs : List X) → take (n - 0) xs ≡ take n xs
-front n xs = let z : n - 0 ≡ n = omega arith in ap (λ k. take k xs) z
-
-pub length_front : {X : Type 0} (n : ℕ) (xs : List X) → length xs ≡ 64 → n ≤ 64 → length (take (n - 0) xs) ≡ n
-length_front n xs l h = ap length (front n xs) ∙ length-take-le n xs (omega arith)
 
 -- the world of a run that is closed, with these records in the book
 abbrev closed : List ℕ → Pool → Inner → List Record → ℕ → World

@@ -1,5 +1,5 @@
 -- Where a book puts the record of a line that was kept.
-use Rattle.std.proofs.Common.{◌≡◌, ℕ, suc, ◌<◌, ◌≤◌, Bool, true, false, cond, ◌||◌, ltb, List, [], ◌∷◌, ◌++◌, map, length, set, is_some, Some, None, Option, sym, refl, ap, ◌∙◌, inl, inr, arith}
+use Rattle.std.proofs.Common.{◌≡◌, ℕ, suc, ◌<◌, ◌≤◌, Bool, true, false, cond, not, ◌||◌, ltb, List, [], ◌∷◌, ◌++◌, map, length, set, is_some, Some, None, Option, sym, refl, ap, ◌∙◌, inl, inr, arith}
 use Rattle.std.proofs.lemmas.List.{length-map, map-set, map-append, set_past}
 use Rattle.std.proofs.lemmas.Bool.{cases_lt, cond-true, cond-false, lt-ltb, le-ltb}
 use Rattle.std.specs.Option.{option_map}
@@ -7,6 +7,7 @@ use Rattle.model.specs.Book.{same_command, in_script, has_record, replace, evict
 use Rattle.model.specs.Records.{Record, said}
 use Rattle.model.specs.declared.command.Command.{Command}
 use Rattle.model.specs.declared.record.Record as Code
+use Rattle.model.proofs.Lists.{position_more}
 use Rattle.runner.specs.Places.{place_of, free_place}
 
 -- the records with another one in a place, if there is one
@@ -26,8 +27,9 @@ replace_at : (q : Record) (rs : List Record) → replace q rs ≡ put_at (place_
 replace_at q [] = refl
 replace_at q (r ∷ rs) =
     replace_step (same_command q.command r.command) (place_of q.command rs) q r rs (replace q rs) (replace_at q rs)
+    ∙ ap (λ o. put_at o (r ∷ rs) q) (sym (position_more (λ x. same_command q.command x.command) r rs))
 
-evict_step : (b : Bool) (o : Option ℕ) (q r : Record) (rs ts : List Record) → ts ≡ put_at o rs q → cond b (r ∷ ts) (q ∷ rs) ≡ put_at (cond b (option_map suc o) (Some 0)) (r ∷ rs) q
+evict_step : (b : Bool) (o : Option ℕ) (q r : Record) (rs ts : List Record) → ts ≡ put_at o rs q → cond b (r ∷ ts) (q ∷ rs) ≡ put_at (cond (not b) (Some 0) (option_map suc o)) (r ∷ rs) q
 evict_step true o q r rs ts e = ap (λ l. r ∷ l) e ∙ sym (one_on o q r rs)
 evict_step false o q r rs ts e = refl
 
@@ -35,6 +37,7 @@ evict_at : (cs : List Command) (q : Record) (rs : List Record) → evict cs q rs
 evict_at cs q [] = refl
 evict_at cs q (r ∷ rs) =
     evict_step (in_script r.command cs) (free_place cs rs) q r rs (evict cs q rs) (evict_at cs q rs)
+    ∙ ap (λ o. put_at o (r ∷ rs) q) (sym (position_more (λ x. not (in_script x.command cs)) r rs))
 
 has_step : (b h : Bool) (o : Option ℕ) → h ≡ is_some o → (b || h) ≡ is_some (cond b (Some 0) (option_map suc o))
 has_step true h o e = refl
@@ -43,7 +46,9 @@ has_step false h (Some n) e = e
 
 has_place : (c : Command) (rs : List Record) → has_record c rs ≡ is_some (place_of c rs)
 has_place c [] = refl
-has_place c (r ∷ rs) = has_step (same_command c r.command) (has_record c rs) (place_of c rs) (has_place c rs)
+has_place c (r ∷ rs) =
+    has_step (same_command c r.command) (has_record c rs) (place_of c rs) (has_place c rs)
+    ∙ ap is_some (sym (position_more (λ x. same_command c x.command) r rs))
 
 -- WHAT KEEP GIVES, by what the searches for a place answered
 

@@ -1,6 +1,6 @@
 -- Laying content by content: what is left of the starting contents gives the files and the pool.
-use Rattle.std.proofs.Common.{◌≡◌, ℕ, zero, suc, ◌+◌, ◌<◌, ◌≤◌, true, false, cond, eqb, List, [], ◌∷◌, map, length, get_or, drop, set, Some, None, Err, Option, Result, sym, refl, ap, ◌∙◌, arith}
-use Rattle.std.proofs.lemmas.List.{length-map, at_drop_more, at_drop_all}
+use Rattle.std.proofs.Common.{◌≡◌, ℕ, ◌+◌, ◌<◌, true, false, cond, eqb, List, map, length, get_or, drop, set, Some, None, Err, Option, Result, sym, refl, ap, ◌∙◌}
+use Rattle.std.proofs.lemmas.List.{length-map, at_drop_more}
 use Rattle.std.proofs.lemmas.Option.{slice_get-get_or, slice_get-map}
 use Rattle.std.proofs.lemmas.Bool.{cond-true, cond-false, eq-eqb, ne_eqb}
 use Rattle.std.specs.Option.{option_map}
@@ -13,7 +13,7 @@ use Rattle.model.specs.Records.{Record}
 use Rattle.model.specs.World.{World}
 use Rattle.model.specs.declared.refusal.Refusal.{Refusal}
 use Rattle.model.specs.declared.refusal.Refusal.TheVariants.{RunOpen}
-use Rattle.model.proofs.Growth.{Began, began_none, began_put}
+use Rattle.model.proofs.Growth.{Began, began_put}
 use Rattle.model.proofs.Promises.{promised}
 use Rattle.script.specs.Haves.{have_of, haves_of}
 use Rattle.script.specs.Text.{Start}
@@ -22,17 +22,11 @@ use Rattle.runner.specs.Views.{world_of}
 use Rattle.runner.specs.declared.log.Inner.{Inner}
 use Rattle.runner.proofs.Unless.{while_open, while_shut}
 
--- the starting contents of a script, as they are laid: each at its place
-pub at_have : (ss : List Start) (i : ℕ) (o : Option Start) → o ≡ slice_get ss i → option_map have_of o ≡ slice_get (haves_of ss) i
-at_have [] i o e = ap (option_map have_of) e
-at_have (s ∷ ss) zero o e = ap (option_map have_of) e
-at_have (s ∷ ss) (suc i) o e = at_have ss i o e
-
 -- the starting content at a place of the list that is handed out
 pub at_start : {X : Type 0} (start : X → Start) (xs : List X) (ss : List Start) (i : ℕ) (d : X) → map start xs ≡ ss → i < length xs → Some (have_of (start (get_or xs i d))) ≡ slice_get (haves_of ss) i
 at_start start xs ss i d same lt =
-    at_have ss i (Some (start (get_or xs i d)))
-    (ap (option_map start) (sym (slice_get-get_or xs i d lt)) ∙ sym (slice_get-map start xs i) ∙ ap (λ ys. slice_get ys i) same)
+    ap (option_map have_of) (ap (option_map start) (sym (slice_get-get_or xs i d lt)) ∙ sym (slice_get-map start xs i) ∙ ap (λ ys. slice_get ys i) same)
+    ∙ sym (slice_get-map have_of ss i)
 
 pub length_haves : (ss : List Start) → length (haves_of ss) ≡ length ss
 length_haves ss = length-map ss have_of
@@ -44,9 +38,6 @@ length_starts start xs ss same = length_haves ss ∙ ap length (sym same) ∙ le
 pub record Left (hs : List Have) (fs gs : List ℕ) (p q : Pool) (i : ℕ) : Type 0 where
   pub rest : laid (drop i hs) gs q ≡ laid hs fs p
   pub began : Began p q
-
-pub left_none : (hs : List Have) (fs : List ℕ) (p : Pool) → Left hs fs fs p p 0
-left_none hs fs p = record { rest = refl; began = began_none p }
 
 module _ (hs : List Have) (fs gs : List ℕ) (p q : Pool) (i : ℕ) (inv : Left hs fs gs p q i) where
   -- at the starting content h
@@ -72,12 +63,6 @@ module _ (hs : List Have) (fs gs : List ℕ) (p q : Pool) (i : ℕ) (inv : Left 
 
     pub pool_back : (n : ℕ) (q' z : Pool) → n ≡ count p → q' ≡ put q h.bytes → z ≡ cut n q' → z ≡ p
     pool_back n q' z e f s = s ∙ ap (λ k. cut k q') e ∙ ap (cut (count p)) f ∙ (began_put p q h.bytes inv.began).cut_is
-
-  pub left_all : length hs ≤ i → Some (record { files = gs; pool = q }) ≡ laid hs fs p
-  left_all h = sym (at_drop_all (λ l. laid l gs q) hs i h) ∙ inv.rest
-
-  pub none_past : None ≡ slice_get hs i → i < length hs → ⊥
-  none_past e lt = let z : None ≡ Some (get_or hs i (record { file = 0; bytes = [] })) = e ∙ slice_get-get_or hs i (record { file = 0; bytes = [] }) lt in let n : ◌≡◌ {A = ℕ} 0 1 = cc in omega arith
 
 -- THE CALL
 pub open_now : (hs : List Have) (w v : World) → true ≡ w.is_open → v ≡ w → Promised (on_lay hs (Err RunOpen)) w v

@@ -13,7 +13,6 @@ pub mod Loading
 pub mod Laying
 pub mod Made
 pub mod Opens
-pub mod Places
 pub mod Unless
 pub mod Wholes
 pub mod Works

@@ -1,7 +1,7 @@
 -- What a working step leaves: the record that it finds, the room that it has, the facts of a log, and the world.
-use Rattle.std.proofs.Common.{◌≡◌, ℕ, ◌+◌, ◌<◌, ◌≤◌, Bool, true, false, cond, not, ◌&&◌, ltb, List, ◌∷◌, length, min, get_or, set, Some, None, Option, Ok, Err, Result, sym, refl, ap, ◌∙◌, inl, inr, arith}
+use Rattle.std.proofs.Common.{◌≡◌, ℕ, ◌+◌, ◌<◌, ◌≤◌, Bool, true, false, cond, ◌&&◌, List, ◌∷◌, length, min, get_or, set, Some, None, Option, Ok, Err, Result, sym, refl, ap, ◌∙◌, inl, inr, arith}
 use Rattle.std.proofs.lemmas.List.{get_or_default, get_or-set_same, get_or-set_other, length-take}
-use Rattle.std.proofs.lemmas.Bool.{and_parts, ltb-true, not-true, cases_eq}
+use Rattle.std.proofs.lemmas.Bool.{cases_eq}
 use Rattle.std.specs.Result.{result_err}
 use Rattle.lists.specs.Held.{held, room}
 use Rattle.engine.specs.States.{outcome}
@@ -20,6 +20,7 @@ use Rattle.model.specs.Hazards.{fresh, ended}
 use Rattle.model.specs.Records.{Record, said}
 use Rattle.model.specs.Step.{left, match, all_held, usable, skips, skip, record_for, work_by, work, noting, moved, after_work}
 use Rattle.model.specs.World.{World, state}
+use Rattle.model.proofs.Sound.{left_parts}
 use Rattle.runner.specs.declared.log.Inner.{Inner}
 use Rattle.runner.specs.Inner.{Kept, made}
 use Rattle.runner.specs.States.{is_ended, is_waiting}
@@ -52,14 +53,14 @@ said_few x = omega (arith, length-take (min x.count 16) x.reads)
 
 -- A LINE THAT IS LEFT
 module _ (i : Inner) (l : ℕ) (m : left (length (notes i.run).commands) (held i.entries) l ≡ true) where
-  parts : (ltb l (length (notes i.run).commands) ≡ true) × (not (ended l (held i.entries)) ≡ true)
-  parts = and_parts (ltb l (length (notes i.run).commands)) (not (ended l (held i.entries))) m
+  parts : (l < length (notes i.run).commands) × (ended l (held i.entries) ≡ false)
+  parts = left_parts (length (notes i.run).commands) (held i.entries) l m
 
   is_line : l < i.run.lines
-  is_line = omega (arith, ltb-true l (length (notes i.run).commands) parts.0, lines_counted i.run)
+  is_line = omega (arith, parts.0, lines_counted i.run)
 
   not_ended : ended l (held i.entries) ≡ false
-  not_ended = not-true (ended l (held i.entries)) parts.1
+  not_ended = parts.1
 
   within : i.run.lines ≤ length i.run.commands
   within = let a = i.run.long in let b = i.run.few in omega arith

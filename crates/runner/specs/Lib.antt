@@ -5,3 +5,4 @@ pub mod Ends
 pub mod Inner
 pub mod Places
 pub mod Views
+pub mod Tickets

@@ -10,9 +10,10 @@ ghost use Rattle.script.specs.Haves.{haves_of};
 ghost use Rattle.script.specs.Scripts.{meaning};
 ghost use Rattle.trace.specs.Format.{decoded};
 ghost use Rattle.trace_write.specs.Laws.{RoundTrip};
-ghost use Rattle.runner.specs.Views.{records, places, world_of, world};
+ghost use Rattle.runner.specs.Tickets.{why_blank};
+ghost use Rattle.runner.specs.Views.{records, world_with, world};
 
-// Kept throughout: files, pool, log and book are parameters of their own, each taken as weakly as a call needs it.
+// Kept throughout: files, pool, log and book are parameters of their own, each borrowed by `&` where it is only read.
 
 use crate::book::Book;
 use crate::log::Log;
@@ -33,7 +34,7 @@ pub fn lay<F: FileStore>(
     pool: &mut Pool,
     log: &Log,
 ) -> Result<(), Refusal>
-    ensures { (rs : List RecordMeant) (n : ℕ) → Promised (on_lay (haves_of (meaning script.now).haves) result) (world_of (F.FileStore.map files.old) (meant pool.old) log.now.inner rs n) (world_of (F.FileStore.map files.new) (meant pool.new) log.now.inner rs n) }
+    ensures { (rs : List RecordMeant) (n : ℕ) → Promised (on_lay (haves_of (meaning script.now).haves) result) (world_with (F.FileStore.map files.old) (meant pool.old) log.now rs n) (world_with (F.FileStore.map files.new) (meant pool.new) log.now rs n) }
 {
     log.lay(script, files, pool)
 }
@@ -43,7 +44,7 @@ pub fn lay<F: FileStore>(
 /// are then as they were. A file that is loaded into an empty pool and an empty book gives its own bytes when it is
 /// saved, and one that was saved brings back the records that were saved, as hints.
 pub fn load(bytes: &[u8], pool: &mut Pool, log: &Log, book: &mut Book) -> Result<(), Refusal>
-    ensures promise { (fs : List ℕ) → Promised (on_load (decoded bytes.now) result) (world_of fs (meant pool.old) log.now.inner (records book.old) (places book.old)) (world_of fs (meant pool.new) log.now.inner (records book.new) (places book.new)) }
+    ensures promise { (fs : List ℕ) → Promised (on_load (decoded bytes.now) result) (world fs (meant pool.old) log.now book.old) (world fs (meant pool.new) log.now book.new) }
     ensures trip { is_ok result ≡ true → (meant pool.old).contents ≡ [] → records book.old ≡ [] → RoundTrip bytes.now (meant pool.new) (records book.new) }
 {
     book.load(bytes, pool, log)
@@ -52,7 +53,7 @@ pub fn load(bytes: &[u8], pool: &mut Pool, log: &Log, book: &mut Book) -> Result
 /// Replays the record in a place of the book: a true one becomes own, another struck. Refused while a run is open, and
 /// where there is no such record; the book is then as it was.
 pub fn audit(at: usize, pool: &Pool, log: &Log, book: &mut Book) -> Result<Standing, Refusal>
-    ensures { (fs : List ℕ) → Promised (on_audit at result) (world_of fs (meant pool.now) log.now.inner (records book.old) (places book.old)) (world_of fs (meant pool.now) log.now.inner (records book.new) (places book.new)) }
+    ensures { (fs : List ℕ) → Promised (on_audit at result) (world fs (meant pool.now) log.now book.old) (world fs (meant pool.now) log.now book.new) }
 {
     book.audit(at, pool, log)
 }
@@ -66,7 +67,7 @@ pub fn begin<F: FileStore>(
     log: &mut Log,
     book: &Book,
 ) -> Ticket
-    ensures { Promised (on_begin (meaning script.now).commands result.refusal) (world (F.FileStore.map files.now) (meant pool.now) log.old book.now) (world (F.FileStore.map files.now) (meant pool.now) log.new book.now) }
+    ensures { Promised (on_begin (meaning script.now).commands (why_blank result)) (world (F.FileStore.map files.now) (meant pool.now) log.old book.now) (world (F.FileStore.map files.now) (meant pool.now) log.new book.now) }
 {
     log.begin(script, files, pool, book)
 }
@@ -81,7 +82,7 @@ pub fn step<F: FileStore, P: Policy>(
     log: &mut Log,
     book: &Book,
 ) -> Result<Stepped, StepRefusal>
-    ensures promise { StepPromised ticket.now.refusal (record { patience = P.Policy.patience policy.old; before = P.Policy.passes policy.old; after = P.Policy.passes policy.new }) result (world (F.FileStore.map files.old) (meant pool.old) log.old book.now) (world (F.FileStore.map files.new) (meant pool.new) log.new book.now) }
+    ensures promise { StepPromised (why_blank ticket.now) (record { patience = P.Policy.patience policy.old; before = P.Policy.passes policy.old; after = P.Policy.passes policy.new }) result (world (F.FileStore.map files.old) (meant pool.old) log.old book.now) (world (F.FileStore.map files.new) (meant pool.new) log.new book.now) }
     ensures same { P.Policy.patience policy.new ≡ P.Policy.patience policy.old }
     ensures unasked { OnErr result (policy.new ≡ policy.old) }
 {
@@ -99,7 +100,7 @@ pub fn close<F: FileStore>(
     log: &mut Log,
     book: &mut Book,
 ) -> Result<Closed, CloseRefusal>
-    ensures { ClosePromised ticket.refusal wish result (world (F.FileStore.map files.old) (meant pool.old) log.old book.old) (world (F.FileStore.map files.new) (meant pool.new) log.new book.new) }
+    ensures { ClosePromised (why_blank ticket) wish result (world (F.FileStore.map files.old) (meant pool.old) log.old book.old) (world (F.FileStore.map files.new) (meant pool.new) log.new book.new) }
 {
     log.close(ticket, wish, files, pool, book)
 }

@@ -3,7 +3,8 @@ ghost use Rattle.std.specs.Prelude.{◌≡◌, ◌≤◌, length};
 use files::Table;
 use model::{Command, LineState, Stop};
 
-// Kept: 64 places and a count, and a flag beside them: by the rules the notes of a run stay as they are once it is closed.
+// Kept: a count, which is that of both tables and by which the facts of a log are said; a flag, since by the rules the
+// notes of a run stay once it is closed.
 /// What a log notes of its run: the commands copied in, the files and the pool's count as begin found them, the stop
 /// if there is one, and the state of each line.
 #[derive(Drop)]

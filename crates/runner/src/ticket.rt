@@ -1,4 +1,5 @@
 ghost use Rattle.std.specs.Prelude.{◌≡◌, Some, None};
+ghost use Rattle.runner.specs.Tickets.{why_blank};
 
 use model::Refusal;
 
@@ -12,14 +13,14 @@ pub struct Ticket {
 impl Ticket {
     /// The ticket of a begin that was accepted.
     pub(crate) fn live() -> Ticket
-        ensures { result.refusal ≡ None }
+        ensures { why_blank result ≡ None }
     {
         Ticket { refusal: None }
     }
 
     /// The ticket of a begin that was refused.
     pub(crate) fn blank(refusal: Refusal) -> Ticket
-        ensures { result.refusal ≡ Some refusal }
+        ensures { why_blank result ≡ Some refusal }
     {
         Ticket {
             refusal: Some(refusal),
@@ -29,15 +30,15 @@ impl Ticket {
     // Kept: by the rules a blank ticket tells why; step, close and build make their own error of it.
     /// Why it is blank; none where it is live.
     pub fn refusal(&self) -> Option<Refusal>
-        ensures { result ≡ self.now.refusal }
+        ensures { result ≡ why_blank self.now }
     {
         self.refusal
     }
 
-    // Kept: the same.
+    // Kept: an `Option`, since a build spends a ticket, too, whose refusal it has told.
     /// Takes the ticket back, and tells why it was blank.
     pub(crate) fn spend(self) -> Option<Refusal>
-        ensures { result ≡ self.refusal }
+        ensures { result ≡ why_blank self }
     {
         let Ticket { refusal } = self;
         refusal

@@ -1,6 +1,6 @@
 -- The first piece of a text, and the first word of a line.
-use Rattle.std.proofs.Common.{◌≡◌, ℕ, zero, suc, ◌+◌, ◌-◌, ◌<◌, ◌≤◌, eqb, List, [], ◌∷◌, length, get_or, take, drop, sym, refl, ap, ◌∙◌, inl, inr, arith}
-use Rattle.std.proofs.lemmas.List.{length-take-le, length-drop, drop_all, take_all, drop-drop, get_or-drop}
+use Rattle.std.proofs.Common.{◌≡◌, ℕ, zero, suc, ◌+◌, ◌<◌, ◌≤◌, eqb, List, [], ◌∷◌, length, get_or, take, drop, sym, refl, ap, ◌∙◌, inl, inr, arith}
+use Rattle.std.proofs.lemmas.List.{length-take-le, length-drop, drop_all, drop-drop, get_or-drop}
 use Rattle.std.proofs.lemmas.Bool.{cond-true, cond-false, eq-eqb, ne_eqb, cases_lt}
 use Rattle.script.specs.Text.{onto, cut, filled, words}
 use Rattle.script.specs.Words.{FirstWord}
@@ -67,7 +67,3 @@ one_word text from n len some blank seen within without ends =
       some = omega arith;
       within = omega arith;
     }
-
--- the part of a list from a place on
-pub end_part : (xs : List ℕ) (n : ℕ) → take (length xs - n) (drop n xs) ≡ drop n xs
-end_part xs n = let l = length-drop n xs in take_all (length xs - n) (drop n xs) (omega arith)

@@ -1,10 +1,8 @@
 -- The place of a label, and the files of several.
-use Rattle.std.proofs.Common.{◌≡◌, ℕ, ◌+◌, ◌-◌, ◌<◌, ◌≤◌, Bool, cond, not, List, [], ◌∷◌, ◌++◌, map, length, get_or, take, drop, set, replicate, Some, None, Option, sym, refl, ap, ◌∙◌, append_assoc, append-nil, arith, Bor}
-use Rattle.std.proofs.lemmas.List.{at_drop_more, at_drop_all, get_or-map, length-map, take_more_set, drop-set-lt, drop-drop, drop-replicate, take-append-drop, length-take-le, length-set}
+use Rattle.std.proofs.Common.{◌≡◌, ℕ, ◌+◌, ◌-◌, ◌<◌, ◌≤◌, List, [], ◌∷◌, ◌++◌, map, length, get_or, take, drop, set, replicate, Some, None, Option, sym, refl, ap, ◌∙◌, append_assoc, arith, Bor}
+use Rattle.std.proofs.lemmas.List.{at_drop_more, get_or-map, length-map, take_more_set, drop-set-lt, drop-drop, drop-replicate, length-set}
 use Rattle.std.specs.Option.{option_map}
-use Rattle.std.specs.List.{position, position_or_len}
 use Rattle.script.specs.Text.{file_of, before, files_of}
-use Rattle.script.specs.Views.{four}
 
 abbrev Ref : Type 0
 Ref = Bor (List ℕ)
@@ -18,29 +16,11 @@ mapped_mapped : {X Y Z : Type 0} (f : X → Y) (g : Y → Z) (h : X → Z) → (
 mapped_mapped f g h e None = refl
 mapped_mapped f g h e (Some x) = ap Some (e x)
 
-pub mapped_same : {X : Type 0} (f : X → X) → ((x : X) → f x ≡ x) → (o : Option X) → option_map f o ≡ o
-mapped_same f e None = refl
-mapped_same f e (Some x) = ap Some (e x)
-
--- the place of the first reference to what passes
-prefix_map : {X Y : Type 0} (p : Y → Bool) (f : X → Y) (xs : List X) → position_or_len p (map f xs) ≡ position_or_len (λ x. p (f x)) xs
-prefix_map p f [] = refl
-prefix_map p f (x ∷ xs) = ap (λ n. cond (not (p (f x))) (1 + n) 0) (prefix_map p f xs)
-
-pub position_map : {X Y : Type 0} (p : Y → Bool) (f : X → Y) (xs : List X) → position p (map f xs) ≡ position (λ x. p (f x)) xs
-position_map p f xs =
-    let l = length-map xs f in
-    let e = prefix_map p f xs in
-    cc
-
 -- the first i files are found, and the others are 0
 pub record Filled (ls : List (List ℕ)) (rs : List Ref) (files : List ℕ) (i : ℕ) : Type 0 where
   pub rest : option_map (λ fs. take i files ++ fs) (files_of ls (drop i (map (λ x. x.now) rs))) ≡ files_of ls (map (λ x. x.now) rs)
   pub zeros : drop i files ≡ replicate (4 - i) 0
   pub long : length files ≡ 4
-
-pub filled_none : (ls : List (List ℕ)) (rs : List Ref) → Filled ls rs (replicate 4 0) 0
-filled_none ls rs = record { rest = mapped_same (λ fs. fs) (λ fs. refl) (files_of ls (map (λ x. x.now) rs)); zeros = refl; long = refl }
 
 module _ (ls : List (List ℕ)) (rs : List Ref) (files : List ℕ) (i : ℕ) (inv : Filled ls rs files i) where
   abbrev after_i : Option ℕ → Option (List ℕ)
@@ -48,9 +28,6 @@ module _ (ls : List (List ℕ)) (rs : List Ref) (files : List ℕ) (i : ℕ) (in
 
   from_i : (d : Ref) → i < length rs → after_i (file_of ls (get_or rs i d).now) ≡ files_of ls (map (λ x. x.now) rs)
   from_i d h = ap (option_map (λ fs. take i files ++ fs)) (sym (at_refs (files_of ls) rs i d h)) ∙ inv.rest
-
-  pub filled_fail : (d : Ref) → i < length rs → None ≡ file_of ls (get_or rs i d).now → None ≡ option_map four (files_of ls (map (λ x. x.now) rs))
-  filled_fail d h e = ap (option_map four) (ap after_i e ∙ from_i d h)
 
   pub filled_more : (d : Ref) (f : ℕ) → i < length rs → length rs ≤ 4 → Some f ≡ file_of ls (get_or rs i d).now → Filled ls rs (set files i f) (i + 1)
   filled_more d f h low e =
@@ -67,14 +44,3 @@ module _ (ls : List (List ℕ)) (rs : List Ref) (files : List ℕ) (i : ℕ) (in
             ∙ drop-replicate 1 (4 - i) 0 ∙ ap (λ n. replicate n 0) less;
         long = length-set files i f ∙ inv.long;
       }
-
-  pub filled_all : length rs ≤ i → i ≤ 4 → Some files ≡ option_map four (files_of ls (map (λ x. x.now) rs))
-  filled_all h low =
-      let l = length-map rs (λ x. x.now) in
-      let m = inv.long in
-      let t : length (take i files) ≡ i = length-take-le i files (omega arith) in
-      let whole : four (take i files) ≡ files =
-      ap (λ n. take i files ++ replicate (4 - n) 0) t ∙ ap (λ r. take i files ++ r) (sym inv.zeros) ∙ take-append-drop i files in
-      ap Some (sym whole ∙ ap four (sym (append-nil (take i files))))
-      ∙ ap (λ o. option_map four (option_map (λ fs. take i files ++ fs) o)) (sym (at_drop_all (files_of ls) (map (λ x. x.now) rs) i (omega arith)))
-      ∙ ap (option_map four) inv.rest

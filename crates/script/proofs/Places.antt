@@ -1,8 +1,8 @@
 -- What `position` says of each element.
-use Rattle.std.proofs.Common.{◌≡◌, ℕ, ◌<◌, ◌≤◌, Bool, true, false, not, ltb, List, length, get_or, is_some, Some, None, Option, sym, ap, inl, inr, arith}
-use Rattle.std.proofs.lemmas.Bool.{cond-true, both_ways, cases_lt, lt-ltb, not-true}
+use Rattle.std.proofs.Common.{◌≡◌, ℕ, ◌<◌, ◌≤◌, Bool, true, false, ltb, List, length, get_or, is_some, Some, None, Option, sym, ap, inl, inr, arith}
+use Rattle.std.proofs.lemmas.Bool.{cond-true, both_ways, cases_lt, lt-ltb}
 use Rattle.std.proofs.lemmas.List.Quantifiers.{position-Some}
-use Rattle.std.proofs.lemmas.List.Sums.{prefix_len_passes}
+use Rattle.std.proofs.lemmas.List.Sums.{fails_before_first}
 use Rattle.std.specs.List.{position, position_or_len}
 use Rattle.std.specs.Option.{unwrap_or}
 
@@ -14,7 +14,7 @@ module _ {X : Type 0} (p : X → Bool) (xs : List X) (d : X) where
         | inl t ↦ absurd (both_ways _ e (ap is_some (cond-true (ltb (position_or_len p xs) (length xs)) (Some (position_or_len p xs)) None (lt-ltb _ _ t))))
         | inr n ↦ n
       ] in
-      not-true _ (prefix_len_passes (λ x. not (p x)) xs k d (omega arith))
+      fails_before_first p xs k d (omega arith)
 
   -- the first place that passes, or the end
   pub record First (n : ℕ) : Type 0 where

@@ -1,5 +1,5 @@
 -- Each script that is read is sound.
-use Rattle.std.proofs.Common.{◌≡◌, ℕ, zero, suc, ◌+◌, ◌<◌, ◌≤◌, false, cond, not, ◌&&◌, eqb, ltb, leb, List, [], ◌∷◌, length, get_or, set, replicate, is_some, Some, None, Ok, Err, Option, Result, sym, refl, ap, ◌∙◌, subst, inl, inr, arith}
+use Rattle.std.proofs.Common.{◌≡◌, ℕ, zero, suc, ◌+◌, ◌<◌, ◌≤◌, false, cond, not, ◌&&◌, eqb, ltb, leb, List, [], ◌∷◌, length, get_or, set, is_some, Some, None, Ok, Err, Option, Result, sym, refl, ap, ◌∙◌, subst, inl, inr, arith}
 use Rattle.std.proofs.ByRecursion.{All-push}
 use Rattle.std.proofs.lemmas.Slice.Eq.{bytes_eq-Decides}
 use Rattle.std.proofs.lemmas.List.{length-set, length_push, get_or-set_same, get_or-set_other, get_or-replicate}
@@ -16,6 +16,7 @@ use Rattle.script.specs.declared.verb.Verb.{Verb}
 use Rattle.script.specs.declared.verb.Verb.TheVariants as verb
 use Rattle.model.specs.Digits.{file_number}
 use Rattle.model.specs.Numbers.{arity}
+use Rattle.model.proofs.Lists.{get_or-same}
 use Rattle.script.proofs.Places.{none_passes}
 use Rattle.script.specs.Sound.{LabelsApart, Sound, Starts, Acts, Holds}
 use Rattle.script.specs.Text.{label_byte, command_on, given, two, free, add_label, add_have, add_command, verb_line, words_line, line_adds, with_label, with_have, with_command, Meaning, Start, nothing, then, from_line, reading, lines, words, plain, verb_of, is_label, file_of, before, files_of}
@@ -172,16 +173,11 @@ sound_lines : (ls : List (List ℕ)) (n : ℕ) (s : Meaning) → Sound s → Hol
 sound_lines [] n s ok = ok
 sound_lines (l ∷ ls) n s ok = holds_then n (line_adds s l) (from_line ls (n + 1)) (sound_line s ok l) (sound_lines ls (n + 1))
 
-short_none : (n i : ℕ) → length (get_or {A = List ℕ} (replicate n []) i []) ≤ 16
-short_none zero i = omega arith
-short_none (suc n) zero = omega arith
-short_none (suc n) (suc i) = short_none n i
-
 pub sound_nothing : Sound nothing
 sound_nothing =
     record {
       labels = refl;
-      short = short_none 64;
+      short = λ i. omega (arith, ap length (get_or-same {X = List ℕ} 64 i []));
       apart = λ i j p. let e : length (get_or nothing.labels i []) ≡ 0 = ap length (get_or-replicate 64 i [] [] (placed nothing.labels i p.0)) in absurd (omega (arith, p.0));
       haves = omega arith;
       commands = omega arith;

@@ -11,6 +11,7 @@ use Rattle.model.specs.declared.command.Kind.TheVariants.{Copy, Join, Gather, Ch
 use Rattle.script.specs.declared.verb.Verb.{Verb}
 use Rattle.script.specs.declared.verb.Verb.TheVariants as verb
 use Rattle.model.specs.Numbers.{arity}
+use Rattle.model.proofs.Lists.{get_or-same}
 use Rattle.script.specs.Text.{given, add_command, command_on, command_line, verb_line, words_line, line_adds, Meaning, words, plain, verb_of, files_of}
 use Rattle.script.specs.Views.{four}
 
@@ -27,9 +28,7 @@ given_some g h (Some x) y e = let z : y ≡ g x = cc in ap h z
 
 -- the places behind the files that are named hold 0, as `get_or` says of them too
 padded : (fs : List ℕ) (n i : ℕ) → get_or (fs ++ replicate n 0) i 0 ≡ get_or fs i 0
-padded [] zero i = refl
-padded [] (suc n) zero = refl
-padded [] (suc n) (suc i) = padded [] n i
+padded [] n i = get_or-same n i 0
 padded (f ∷ fs) n zero = refl
 padded (f ∷ fs) n (suc i) = padded fs n i
 

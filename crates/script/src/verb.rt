@@ -12,8 +12,8 @@ pub(crate) enum Verb {
     Command(Kind),
 }
 
+// Kept: no `FromStr`, since the words of a script are bytes; `Kind::name` says each name once.
 /// The command of a name.
-// Kept: a search over the kinds, since the words of a script are bytes; `Kind::name` says each name once.
 fn kind_of(word: &[u8]) -> Option<Kind>
     ensures { result ≡ kind_of word.now }
 {

@@ -37,7 +37,7 @@ pub(crate) fn words_of<'t>(line: &'t [u8]) -> ArrayVec<&'t [u8], 6>
 {
     let mut words = ArrayVec::new();
     let mut at = 0;
-    // Kept: words are found by `next_word`, as by callers; `at` is where the last one ended, and no counter.
+    // Kept: `next_word` is public, and words are found in one way; `at` is where the last one ended, and no counter.
     while !words.is_full() {
         let Some(word) = next_word(line, at) else {
             break;

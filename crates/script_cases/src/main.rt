@@ -83,7 +83,7 @@ fn print_outcome(rt: &HostRuntime, text: &[u8]) -> io::Result<()> {
     match script.read(text) {
         Ok(()) => {
             let lines = script.commands().len();
-            let haves = (0..65).filter(|i| script.have(*i).is_some()).count();
+            let haves = script.starts().len();
             println!(rt; " -> lines {lines} haves {haves}")
         }
         Err(refused) => println!(rt; " -> refused {refused}"),

@@ -8,10 +8,6 @@ use Rattle.model.specs.declared.refusal.Refusal.{Refusal}
 abbrev pub onto : {X : Type 0} → List X → Reading (List X) → Reading (List X)
 onto xs r = then r (λ ys bs. read (xs ++ ys) bs)
 
-pub onto_none : {X : Type 0} (r : Reading (List X)) → onto [] r ≡ r
-onto_none (Ok r) = refl
-onto_none (Err e) = refl
-
 onto_one : {X : Type 0} (xs : List X) (x : X) (r : Reading (List X)) → onto xs (then r (λ ys bs. read (x ∷ ys) bs)) ≡ onto (xs ++ x ∷ []) r
 onto_one xs x (Ok r) = ap (λ ys. read ys r.rest) (sym (append_assoc xs (x ∷ []) r.value))
 onto_one xs x (Err e) = refl
@@ -25,9 +21,9 @@ module _ {S X : Type 0} (p : S → List ℕ → Reading X) (next : S → X → S
   pub onto_stop : (xs : List X) (e : Refusal) → Err e ≡ p s bs → onto xs (many p next (suc n) s bs) ≡ Err e
   onto_stop xs e h = ap (λ r. onto xs (then r (λ y ds. then (many p next n (next s y) ds) (λ ys es. read (y ∷ ys) es)))) (sym h)
 
-pub after_push : {S X : Type 0} (next : S → X → S) (s : S) (xs : List X) (x : X) → after next s (xs ++ x ∷ []) ≡ next (after next s xs) x
-after_push next s [] x = refl
-after_push next s (y ∷ xs) x = after_push next (next s y) xs x
+pub after_append : {S X : Type 0} (next : S → X → S) (s : S) (xs ys : List X) → after next s (xs ++ ys) ≡ after next (after next s xs) ys
+after_append next s [] ys = refl
+after_append next s (x ∷ xs) ys = after_append next (next s x) xs ys
 
 -- what is kept of the values
 module _ {S X Y : Type 0} (p : S → List ℕ → Reading X) (next : S → X → S) (n : ℕ) (s : S) (bs : List ℕ) where
@@ -42,7 +38,3 @@ module _ {S X Y : Type 0} (p : S → List ℕ → Reading X) (next : S → X →
 
   pub gathered_stop : (f : List X → Y) (e : Refusal) → Err e ≡ p s bs → gathered f (many p next (suc n) s bs) ≡ Err e
   gathered_stop f e h = ap (λ r. gathered f (then r (λ y ds. then (many p next n (next s y) ds) (λ ys es. read (y ∷ ys) es)))) (sym h)
-
-pub gathered_same : {X Y : Type 0} (f g : X → Y) (r : Reading X) → ((x : X) → f x ≡ g x) → gathered f r ≡ gathered g r
-gathered_same f g (Ok r) h = ap (λ y. read y r.rest) (h r.value)
-gathered_same f g (Err e) h = refl

@@ -1,13 +1,13 @@
 -- The loop that takes the records.
-use Rattle.std.proofs.Common.{◌≡◌, ℕ, suc, ◌+◌, ◌-◌, ◌<◌, ◌≤◌, List, [], length, Err, sym, refl, ap, ◌∙◌, arith}
+use Rattle.std.proofs.Common.{◌≡◌, ℕ, suc, ◌+◌, ◌-◌, ◌<◌, List, length, Err, sym, refl, ap, ◌∙◌, arith}
 use Rattle.std.proofs.lemmas.List.{length_push}
 use Rattle.model.specs.Records.{Record}
 use Rattle.model.specs.declared.command.Command.{Command}
 use Rattle.model.specs.declared.refusal.Refusal.{Refusal}
 use Rattle.trace.proofs.Chains.{gathered_more, gathered_stop}
-use Rattle.trace.specs.Format.{Before, start, noted, raised, push, a_record}
+use Rattle.trace.specs.Format.{Before, noted, raised, push, a_record}
 use Rattle.trace.specs.Reads.{Reading, read, many, after}
-use Rattle.trace.specs.Told.{gathered, high_of, met}
+use Rattle.trace.specs.Told.{gathered, met}
 
 -- the highest index after some more records
 abbrev pub high_from : Before → List Record → ℕ
@@ -17,10 +17,6 @@ high_from s rs = (after noted s rs).high
 pub record Rest (answer : Reading ℕ) (m n : ℕ) (es : List Command) (high i : ℕ) (bs : List ℕ) : Type 0 where
   pub rest : gathered (high_from (met es high)) (many (a_record m) noted (n - i) (met es high) bs) ≡ answer
   pub long : length es ≡ i
-
-pub rest_none : (m n : ℕ) (bs : List ℕ) → Rest (gathered high_of (many (a_record m) noted n start bs)) m n [] 0 0 bs
-rest_none m n bs =
-    let z : n - 0 ≡ n = omega arith in record { rest = ap (λ k. gathered (high_from start) (many (a_record m) noted k start bs)) z; long = refl }
 
 module _ (answer : Reading ℕ) (m n : ℕ) (es : List Command) (high i : ℕ) (bs : List ℕ) (inv : Rest answer m n es high i bs) where
   abbrev s : Before
@@ -46,6 +42,3 @@ module _ (answer : Reading ℕ) (m n : ℕ) (es : List Command) (high i : ℕ) (
               ∙ inv.rest;
           long = let l = length_push es r.command in omega (arith, inv.long);
         }
-
-  pub rest_all : n ≤ i → read high bs ≡ answer
-  rest_all a = let z : 0 ≡ n - i = omega arith in ap (λ k. gathered (high_from s) (many (a_record m) noted k s bs)) z ∙ inv.rest

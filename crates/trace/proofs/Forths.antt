@@ -1,7 +1,8 @@
 -- A lawful trace is read back.
-use Rattle.std.proofs.Common.{◌≡◌, ℕ, ◌+◌, ◌*◌, ◌/◌, ◌%◌, Bool, true, not, ◌&&◌, eqb, leb, List, [], ◌∷◌, ◌++◌, length, take, drop, Ok, Err, Result, sym, refl, ap, ◌∙◌, append_assoc, append-nil, arith}
+use Rattle.std.proofs.Common.{◌≡◌, ℕ, Bool, true, not, ◌&&◌, eqb, leb, List, [], ◌∷◌, ◌++◌, length, take, drop, Ok, Err, Result, sym, refl, ap, ◌∙◌, append_assoc, append-nil, arith}
 use Rattle.std.proofs.lemmas.List.{length-append, take_at, drop_at}
 use Rattle.std.proofs.lemmas.Bool.{cond-true, and_parts, le-leb}
+use Rattle.std.proofs.lemmas.Nat.{div-add-mod'}
 use Rattle.std.specs.List.{flat_map}
 use Rattle.model.specs.Contents.{Content, mem}
 use Rattle.model.specs.Numbers.{kind_number}
@@ -21,9 +22,6 @@ use Rattle.trace.specs.Format.{Before, start, noted, higher, push, new_content, 
 passed : {Y : Type 0} (t : Bool) (r : Result Y Refusal) → t ≡ true → rule t r ≡ r
 passed t r e = cond-true t r (Err TraceRule) e
 
-number_same : (n : ℕ) → n / 256 * 256 + n % 256 ≡ n
-number_same n = omega arith
-
 piece_forth : (c cs : List ℕ) → a_piece (length c) (c ++ cs) ≡ read c cs
 piece_forth c cs =
     let l = length-append c cs in
@@ -32,7 +30,7 @@ piece_forth c cs =
     ∙ ap (read c) (drop_at c cs (length c) refl)
 
 count_forth : (m n : ℕ) (cs : List ℕ) → leb n m ≡ true → a_count m (two_bytes n ++ cs) ≡ read n cs
-count_forth m n cs ok = ap (λ k. at_most m k cs) (number_same n) ∙ passed (leb n m) (read n cs) ok
+count_forth m n cs ok = ap (λ k. at_most m k cs) (div-add-mod' n 256) ∙ passed (leb n m) (read n cs) ok
 
 file_forth : (m f : ℕ) (cs : List ℕ) → leb f m ≡ true → a_file m (f ∷ cs) ≡ read f cs
 file_forth m f cs ok = passed (leb f m) (read f cs) ok
@@ -48,7 +46,7 @@ use_forth : (m h : ℕ) (u : Use) (cs : List ℕ) → use_ok m h u ≡ true → 
 use_forth m h u cs ok =
     let p = and_parts (leb u.file 63) (index_ok m h u.number) ok in
     ap (λ r. then r (use_file m h)) (file_forth 63 u.file (two_bytes u.number ++ cs) p.0)
-    ∙ ap (λ k. use_index m h u.file k cs) (number_same u.number)
+    ∙ ap (λ k. use_index m h u.file k cs) (div-add-mod' u.number 256)
     ∙ passed (index_ok m h u.number) (read u cs) p.1
 
 kind_forth : (k : Kind) (cs : List ℕ) → a_kind (kind_number k ∷ cs) ≡ read k cs
@@ -73,7 +71,7 @@ command_forth es c cs ok =
     ∙ ap (λ r. then r (new_command es k c.a c.b c.c)) (file_forth (highest k 4) c.d cs d.1)
     ∙ passed (not (known_command c es)) (read c cs) p.1
 
-hint_forth : (s : Standing) → is_hint s ≡ true → Hint ≡ s
+pub hint_forth : (s : Standing) → is_hint s ≡ true → Hint ≡ s
 hint_forth Hint e = refl
 hint_forth Own e = let z : ◌≡◌ {A = ℕ} 0 1 = cc in absurd (omega arith)
 hint_forth Struck e = let z : ◌≡◌ {A = ℕ} 0 1 = cc in absurd (omega arith)

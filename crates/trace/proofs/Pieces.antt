@@ -1,7 +1,7 @@
 -- The loop that takes the contents.
-use Rattle.std.proofs.Common.{◌≡◌, ℕ, suc, ◌+◌, ◌-◌, ◌<◌, ◌≤◌, List, [], ◌∷◌, ◌++◌, map, length, take, set, Err, sym, ap, ◌∙◌, append-nil, arith, Bor}
+use Rattle.std.proofs.Common.{◌≡◌, ℕ, suc, ◌+◌, ◌-◌, ◌<◌, List, [], ◌∷◌, ◌++◌, map, length, take, set, Err, sym, ap, ◌∙◌, arith, Bor}
 use Rattle.std.proofs.lemmas.List.{take_more_set, map_push}
-use Rattle.trace.proofs.Chains.{onto, onto_none, onto_more, onto_stop}
+use Rattle.trace.proofs.Chains.{onto, onto_more, onto_stop}
 use Rattle.trace.specs.Reads.{Reading, read, then, many, a_count}
 use Rattle.trace.specs.Format.{a_content, push, all_contents, the_contents}
 use Rattle.model.specs.declared.refusal.Refusal.{Refusal}
@@ -39,18 +39,6 @@ module _ (answer : Reading (List (List ℕ))) (n : ℕ) (list : List Ref) (i : �
       sym (onto_stop a_content push (n - (i + 1)) (firsts i list) bs (firsts i list) e (f ∙ ap (λ es. a_content es bs) exact))
       ∙ ap (λ m. onto (firsts i list) (many a_content push m (firsts i list) bs)) left_one
       ∙ inv
-
-pub rest_none : (n : ℕ) (list : List Ref) (bs : List ℕ) → Rest (many a_content push n [] bs) n list 0 bs
-rest_none n list bs = let z : n - 0 ≡ n = omega arith in ap (λ m. onto [] (many a_content push m [] bs)) z ∙ onto_none (many a_content push n [] bs)
-
-pub rest_all : (answer : Reading (List (List ℕ))) (n : ℕ) (list : List Ref) (i : ℕ) (bs : List ℕ) → Rest answer n list i bs → n ≤ i → i ≤ n → read (firsts n list) bs ≡ answer
-rest_all answer n list i bs inv h l =
-    let z : 0 ≡ n - i = omega arith in
-    let same : n ≡ i = omega arith in
-    ap (λ m. read (firsts m list) bs) same
-    ∙ ap (λ cs. read cs bs) (sym (append-nil (firsts i list)))
-    ∙ ap (λ m. onto (firsts i list) (many a_content push m (firsts i list) bs)) z
-    ∙ inv
 
 pub section_begins : (n : ℕ) (bs cs : List ℕ) → read n cs ≡ a_count 1024 bs → all_contents n cs ≡ the_contents bs
 section_begins n bs cs e = ap (λ r. then r all_contents) e

@@ -28,10 +28,6 @@ from_gathered f (Ok q) y bs e =
     }
 from_gathered f (Err x) y bs e = let z : ◌≡◌ {A = ℕ} 0 1 = cc in absurd (omega arith)
 
-err_gathered : {X Y Z : Type 0} (f : X → Y) (r : Reading X) (more : X → List ℕ → Result Z Refusal) (e : Refusal) → Err e ≡ gathered f r → Err e ≡ then r more
-err_gathered f (Ok q) more e h = let z : ◌≡◌ {A = ℕ} 0 1 = cc in absurd (omega arith)
-err_gathered f (Err x) more e h = cc
-
 -- a file ends well with what was read
 gathered_end : {Y : Type 0} → Result (Unit {0}) Refusal → Y → Result Y Refusal
 gathered_end (Ok u) y = Ok y
@@ -51,15 +47,9 @@ module _ (bs : List ℕ) (cs : List Content) (n : ℕ) (ds : List ℕ) (first : 
   after_contents : then (the_records n ds) (finished cs) ≡ decoded bs
   after_contents = ap (λ k. then (the_records k ds) (finished cs)) (sym count) ∙ ap (λ r. then r with_contents) first
 
-  pub bad_count : (e : Refusal) → Err e ≡ a_count 256 ds → Err e ≡ decoded bs
-  bad_count e h = ap (λ r. then (then r (all_records n)) (finished cs)) h ∙ after_contents
-
   module _ (m : ℕ) (fs : List ℕ) (second : read m fs ≡ a_count 256 ds) where
     by_parts : then (all_records n m fs) (finished cs) ≡ decoded bs
     by_parts = ap (λ r. then (then r (all_records n)) (finished cs)) second ∙ after_contents
-
-    pub bad_records : (e : Refusal) → Err e ≡ gathered high_of (all_records n m fs) → Err e ≡ decoded bs
-    bad_records e h = err_gathered high_of (all_records n m fs) (finished cs) e h ∙ by_parts
 
     module _ (h : ℕ) (gs : List ℕ) (third : read h gs ≡ gathered high_of (all_records n m fs)) where
       rs : From high_of (all_records n m fs) h gs
@@ -75,10 +65,6 @@ module _ (bs : List ℕ) (cs : List Content) (n : ℕ) (ds : List ℕ) (first : 
           ∙ ap (λ k. rule (eqb (high_of rs.value) k) (ended gs trace)) (sym count)
           ∙ ap (λ r. then r (finished cs)) (sym rs.was)
           ∙ by_parts
-
-      pub bad_end : (e : Refusal) → Err e ≡ at_end h n gs → Err e ≡ decoded bs
-      unfolding gathered_end
-      bad_end e f = ap (λ r. gathered_end r trace) f ∙ ends
 
       pub good_end : Ok tt ≡ at_end h n gs → ◌≡◌ {A = Result Traced Refusal} (Ok (record { contents = cs; records = readable (again n) raised m 0 fs })) (decoded bs)
       unfolding gathered_end

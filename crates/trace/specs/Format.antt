@@ -1,11 +1,11 @@
 -- The trace file: what a string of bytes says, and how a trace is written.
 use Rattle.std.specs.Prelude.{ℕ, ◌+◌, max, Bool, true, false, cond, not, ◌&&◌, List, [], ◌∷◌, ◌++◌, length, Some, None, Ok, Err, Option, Result, ◌==◌, nat_le}
-use Rattle.std.specs.List.{flat_map, list_any}
+use Rattle.std.specs.List.{flat_map}
 use Rattle.model.specs.Contents.{Content, mem}
 use Rattle.model.specs.Numbers.{kind_number, arity}
 pub use Rattle.model.specs.Numbers.{kind_of}
 use Rattle.model.specs.Records.{Record}
-use Rattle.model.specs.Book.{same_command}
+use Rattle.model.specs.Book.{in_script}
 use Rattle.model.specs.Load.{Traced}
 use Rattle.model.specs.declared.command.Command.{Command}
 use Rattle.model.specs.declared.command.Kind.{Kind}
@@ -55,8 +55,9 @@ highest k place = cond (nat_le place (arity k)) 63 0
 abbrev pub a_file : ℕ → List ℕ → Reading ℕ
 a_file most bs = then (a_byte bs) (at_most most)
 
+-- a command is among earlier ones
 abbrev pub known_command : Command → List Command → Bool
-known_command c es = list_any (same_command c) es
+known_command c es = in_script c es
 
 abbrev pub new_command : List Command → Kind → ℕ → ℕ → ℕ → ℕ → List ℕ → Reading Command
 new_command es k a b c d bs =

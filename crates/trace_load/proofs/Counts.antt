@@ -1,36 +1,23 @@
 -- How many places the records of a lawful trace need: one for each command that the book does not have.
 use Rattle.std.proofs.Common.{◌≡◌, ℕ, zero, suc, ◌+◌, ◌-◌, ◌≤◌, Bool, true, false, cond, not, ◌&&◌, ◌||◌, eqb, leb, List, [], ◌∷◌, map, length, take, Ok, Err, sym, refl, ap, ◌∙◌, inl, inr, arith}
 use Rattle.std.proofs.lemmas.List.{length-map, length-take}
-use Rattle.std.proofs.lemmas.Bool.{cond-true, cond-false, and_parts, or_parts, or_from, not-true, eqb-true, le-leb, lt-leb, cases_lt}
+use Rattle.std.proofs.lemmas.Bool.{cond-false, and_parts, or_parts, not-true, le-leb, lt-leb, cases_lt}
 use Rattle.std.proofs.lemmas.List.Sums.{sum_by-cons}
+use Rattle.std.proofs.lemmas.List.Recursion.{or_push}
 use Rattle.std.specs.List.{AllByRecursion}
 use Rattle.model.specs.Contents.{Content, Pool}
-use Rattle.model.specs.Numbers.{kind_number}
 use Rattle.model.specs.Records.{Record, said}
 use Rattle.model.specs.Book.{same_command, own, hint}
 use Rattle.model.specs.Load.{Traced, hinted, hints}
 use Rattle.model.specs.declared.command.Command.{Command}
 use Rattle.model.specs.declared.record.Record as Code
 use Rattle.model.specs.declared.refusal.Refusal.TheVariants.{NoRoomToLoad}
+use Rattle.model.proofs.Keys.{same_is}
 use Rattle.trace.specs.Format.{Before, start, noted, raised, push, content_ok, files_ok, known_command, record_ok, lawful}
 use Rattle.trace.specs.Told.{again, coming}
 use Rattle.trace.specs.declared.records.Records.{Records}
 use Rattle.trace.specs.Reads.{Reading, begun, readable, each, after}
 use Rattle.trace_load.specs.Takes.{fresh, hints_told, hints_after}
-
--- the same as one of two commands that are the same
-same_same : (c q r : Command) → same_command q r ≡ true → same_command c q ≡ same_command c r
-same_same c q r e =
-    let a = and_parts _ (eqb q.d r.d) e in
-    let b = and_parts _ (eqb q.c r.c) a.0 in
-    let d = and_parts _ (eqb q.b r.b) b.0 in
-    let f = and_parts (eqb (kind_number q.kind) (kind_number r.kind)) (eqb q.a r.a) d.0 in
-    let k = kind_number c.kind in
-    ap (λ n. eqb k n && eqb c.a q.a && eqb c.b q.b && eqb c.c q.c && eqb c.d q.d) (eqb-true (kind_number q.kind) (kind_number r.kind) f.0)
-    ∙ ap (λ n. eqb k (kind_number r.kind) && eqb c.a n && eqb c.b q.b && eqb c.c q.c && eqb c.d q.d) (eqb-true q.a r.a f.1)
-    ∙ ap (λ n. eqb k (kind_number r.kind) && eqb c.a r.a && eqb c.b n && eqb c.c q.c && eqb c.d q.d) (eqb-true q.b r.b d.1)
-    ∙ ap (λ n. eqb k (kind_number r.kind) && eqb c.a r.a && eqb c.b r.b && eqb c.c n && eqb c.d q.d) (eqb-true q.c r.c b.1)
-    ∙ ap (λ n. eqb k (kind_number r.kind) && eqb c.a r.a && eqb c.b r.b && eqb c.c r.c && eqb c.d n) (eqb-true q.d r.d a.1)
 
 abbrev known : Command → List Record → Bool
 known c rs = known_command c (map (λ r. r.command) rs)
@@ -42,7 +29,7 @@ known_hint c q (r ∷ rs) e = by (same_command q.command r.command) refl (own r.
   where
     by : (a : Bool) → same_command q.command r.command ≡ a → (b : Bool) → known c (hint q rs) ≡ known c rs → known c (cond a (cond b (r ∷ rs) (q ∷ rs)) (r ∷ hint q rs)) ≡ known c (r ∷ rs)
     by true f true more = refl
-    by true f false more = ap (λ b. b || known c rs) (same_same c q.command r.command f)
+    by true f false more = ap (λ d. same_command c d || known c rs) (same_is q.command r.command f)
     by false f b more = ap (λ k. same_command c r.command || k) more
 
 hint_length : (q : Record) (rs : List Record) → length (hint q rs) ≡ length rs + cond (not (known q.command rs)) 1 0
@@ -69,10 +56,7 @@ fresh_hint q rs (x ∷ qs) a =
     ∙ sym (fresh_cons rs x qs)
 
 known_push : (c d : Command) (cs : List Command) → known_command c (push cs d) ≡ false → (known_command c cs ≡ false) × (same_command c d ≡ false)
-known_push c d [] e = (refl, (or_parts (same_command c d) false e).0)
-known_push c d (x ∷ cs) e =
-    let a = or_parts (same_command c x) (known_command c (push cs d)) e in
-    let b = known_push c d cs a.1 in (or_from (same_command c x) (known_command c cs) a.0 b.0, b.1)
+known_push c d cs e = or_parts _ _ (sym (or_push (known_command c) (same_command c) refl (λ x ds. refl) cs d) ∙ e)
 
 module _ (n : ℕ) where
   new_command : (s : Before) (r : Record) → record_ok n s r ≡ true → known_command r.command s.commands ≡ false
@@ -127,9 +111,6 @@ module _ (xs : List Content) (p : Pool) (t : Traced) (list : List Code.Record) (
 
   pub refused_is : leb (length all) places ≡ false → (Err NoRoomToLoad ≡ hints_told all places) × (map said list ≡ hints_after all places (map said list))
   refused_is e = (sym (cond-false (leb (length all) places) _ _ e), sym (cond-false (leb (length all) places) _ _ e))
-
-  pub taken_is : leb (length all) places ≡ true → (Ok tt ≡ hints_told all places) × (all ≡ hints_after all places (map said list))
-  taken_is e = (sym (cond-true (leb (length all) places) _ _ e), sym (cond-true (leb (length all) places) _ _ e))
 
   pub same_all : (ys : List Content) (qs : List Record) → ys ≡ xs → qs ≡ t.records → hints ys p qs (map said list) ≡ all
   same_all ys qs e f = ap (λ l. hints l p qs (map said list)) e ∙ ap (λ l. hints xs p l (map said list)) f

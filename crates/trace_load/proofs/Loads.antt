@@ -1,5 +1,5 @@
 -- What loading a file comes to, by what its bytes mean, the pool that takes its contents, and the book's places.
-use Rattle.std.proofs.Common.{◌≡◌, ℕ, Bool, true, false, cond, leb, List, length, Some, None, Ok, Err, Option, Result, sym, refl, ap, ◌∙◌, subst, arith}
+use Rattle.std.proofs.Common.{◌≡◌, ℕ, Bool, true, false, cond, leb, List, length, Some, None, Ok, Err, Option, Result, sym, ap, ◌∙◌, subst, arith}
 use Rattle.model.specs.Contents.{Pool, cut}
 use Rattle.model.specs.Load.{Traced, puts, hints, Placed, Pooled, Loaded}
 use Rattle.model.specs.Records.{Record}
@@ -16,20 +16,9 @@ module _ (b : Result Traced Refusal) (p : Pool) (rs : List Record) (places : ℕ
   abbrev at : Pool → List Record → World
   at q ss = stocked w w.files q ss
 
-  pub refused : (r : Refusal) → Err r ≡ b → Loaded b (Err r) (at p rs) (at p rs)
-  refused r e = rw (← e) (refl, refl)
-
   module _ (t : Traced) (means : Ok t ≡ b) where
     by_pool : (a : Result (Unit {0}) Refusal) (v : World) → Pooled t (puts t.contents p) a (at p rs) v → Loaded b a (at p rs) v
     by_pool a v h = rw (← means) h
-
-    -- the pool refused a content
-    pub pool_full : (r : Refusal) (q : Pool) → Err r ≡ put_told (puts t.contents p) → q ≡ put_after (puts t.contents p) p → Loaded b (Err r) (at p rs) (at q rs)
-    pool_full r q e i = by_pool (Err r) (at q rs) (by (puts t.contents p) e i)
-      where
-        by : (o : Option Pool) → Err r ≡ put_told o → q ≡ put_after o p → Pooled t o (Err r) (at p rs) (at q rs)
-        by None f j = (f, ap (λ z. at z rs) j)
-        by (Some z) f j = let n : ◌≡◌ {A = ℕ} 0 1 = cc in absurd (omega arith)
 
     -- the pool took them
     module _ (q : Pool) (took : done ≡ put_told (puts t.contents p)) (after : q ≡ put_after (puts t.contents p) p) where
@@ -55,10 +44,3 @@ module _ (b : Result Traced Refusal) (p : Pool) (rs : List Record) (places : ℕ
           by : (c : Bool) → Err r ≡ cond c done (Err NoRoomToLoad) → ss ≡ cond c new rs → Placed c q new (Err r) (at p rs) (at z ss)
           by true f j = let n : ◌≡◌ {A = ℕ} 0 1 = cc in absurd (omega arith)
           by false f j = (f, ap (λ x. at x ss) as_it_was ∙ ap (at p) j)
-
-      pub all_taken : (ss : List Record) → done ≡ hints_told new places → ss ≡ hints_after new places rs → Loaded b done (at p rs) (at q ss)
-      all_taken ss e i = by_places done (at q ss) (by (leb (length new) places) e i)
-        where
-          by : (c : Bool) → done ≡ cond c done (Err NoRoomToLoad) → ss ≡ cond c new rs → Placed c q new done (at p rs) (at q ss)
-          by true f j = (refl, ap (at q) j)
-          by false f j = let n : ◌≡◌ {A = ℕ} 0 1 = cc in absurd (omega arith)

@@ -2,6 +2,7 @@
 use Rattle.std.proofs.Common.{◌≡◌, ℕ, suc, ◌+◌, ◌<◌, ◌≤◌, Bool, true, false, cond, not, ltb, ltb-true, ltb-false, List, [], ◌∷◌, ◌++◌, map, length, get_or, set, Some, None, position, sym, refl, ap, ◌∙◌, subst, arith}
 use Rattle.std.proofs.lemmas.List.{length_push, length-map}
 use Rattle.std.proofs.lemmas.Bool.{cond-true, cond-false, lt-ltb}
+use Rattle.std.proofs.lemmas.Option.{cond_some}
 use Rattle.std.specs.List.{position_or_len}
 use Rattle.model.specs.Contents.{Content, Pool}
 use Rattle.model.specs.Records.{Record, said}
@@ -19,11 +20,7 @@ abbrev pub place : Command → List Code.Record → ℕ
 place c xs = position_or_len (of c) xs
 
 pub place_some : (c : Command) (xs : List Code.Record) (i : ℕ) → Some i ≡ position (of c) xs → (i ≡ place c xs) × (place c xs < length xs)
-place_some c xs i e = by (ltb (place c xs) (length xs)) refl e
-  where
-    by : (b : Bool) → ltb (place c xs) (length xs) ≡ b → Some i ≡ cond b (Some (place c xs)) None → (i ≡ place c xs) × (place c xs < length xs)
-    by true h f = (cc, ltb-true _ _ h)
-    by false h f = let z : ◌≡◌ {A = ℕ} 0 1 = cc in absurd (omega arith)
+place_some c xs i e = let p = cond_some (ltb (place c xs) (length xs)) (place c xs) i (sym e) in (sym p.1, ltb-true _ _ p.0)
 
 pub place_none : (c : Command) (xs : List Code.Record) → None ≡ position (of c) xs → length xs ≤ place c xs
 place_none c xs e = by (ltb (place c xs) (length xs)) refl e
@@ -96,9 +93,6 @@ module _ (xs : List Content) (p : Pool) (q : Record) (all rest rs : List Record)
 
 -- what the book does with a hint, as its calls tell it
 module _ (q : Code.Record) (xs slice : List Code.Record) (same : slice ≡ xs) where
-  pub found_within : (i : ℕ) → Some i ≡ position (of q.command) slice → i < length slice
-  found_within i e = let p = place_some q.command slice i e in omega (arith, p.0, p.1)
-
   pub left_out : (i : ℕ) (d : Code.Record) → Some i ≡ position (of q.command) slice → own (get_or slice i d).standing ≡ true → map said xs ≡ hint (said q) (map said xs)
   left_out i d e o =
       let p = place_some q.command slice i e in

@@ -1,4 +1,4 @@
-ghost use Rattle.std.specs.Prelude.{◌≡◌, ◌-◌, ◌≤◌, true, [], map, length, take, slice_index_or};
+ghost use Rattle.std.specs.Prelude.{◌≡◌, ◌-◌, ◌≤◌, true, [], map, length, take};
 ghost use Rattle.lists.specs.Held.{held, room};
 ghost use Rattle.model.specs.Records.{said};
 ghost use Rattle.model.specs.Book.{hint as hint_in};

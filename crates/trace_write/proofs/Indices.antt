@@ -1,8 +1,8 @@
 -- The places in the order of first use are indices as a file wants them.
-use Rattle.std.proofs.Common.{◌≡◌, ℕ, suc, ◌+◌, ◌<◌, ◌≤◌, max, Bool, true, false, cond, not, ◌&&◌, leb, List, [], ◌∷◌, ◌++◌, map, length, sym, refl, ap, ◌∙◌, inl, inr, append_assoc, append-nil, arith}
+use Rattle.std.proofs.Common.{◌≡◌, ℕ, suc, ◌+◌, ◌<◌, ◌≤◌, max, Bool, true, false, cond, not, ◌&&◌, eqb, leb, List, [], ◌∷◌, ◌++◌, map, length, sym, refl, ap, ◌∙◌, inl, inr, append_assoc, append-nil, arith}
 use Rattle.std.proofs.lemmas.List.{length-append, length_push, length-map}
-use Rattle.std.proofs.lemmas.Bool.{and_parts, and_from, le-leb, leb-true, leb-false, cases_eq, cases_Bool, cond-true, cond-false}
-use Rattle.std.specs.List.{flat_map, list_all}
+use Rattle.std.proofs.lemmas.Bool.{and_parts, and_from, le-leb, cases_eq, cases_lt}
+use Rattle.std.specs.List.{flat_map, list_all, list_any}
 use Rattle.model.specs.Contents.{Pool, holds}
 use Rattle.model.specs.Records.{Record}
 use Rattle.model.specs.declared.command.Command.{Command}
@@ -10,8 +10,8 @@ use Rattle.model.specs.declared.record.Use.{Use}
 use Rattle.trace.specs.Format.{noted, raised, higher, push, index_ok, use_ok, count_ok, known_command, record_ok}
 use Rattle.trace.specs.Reads.{after, each}
 use Rattle.trace.specs.Told.{met}
-use Rattle.trace_write.proofs.Lists.{place_same, place_other, place_low}
-use Rattle.trace_write.proofs.Orders.{after_append}
+use Rattle.trace_write.proofs.Lists.{place_same, place_other, place_low, listed_old, listed_new}
+use Rattle.trace.proofs.Chains.{after_append}
 use Rattle.trace_write.proofs.Selects.{with_command, chosen_ok, savable_parts}
 use Rattle.trace_write.specs.Saves.{use_savable, savable, place, listed, numbers_in, indexed_use, indexed}
 
@@ -21,7 +21,7 @@ pub record Longer (ns o : List ℕ) : Type 0 where
   pub same : ns ≡ o ++ more
 
 longer_one : (o : List ℕ) (n : ℕ) → Longer (listed o n) o
-longer_one o n = by (leb (place n o) (length o))
+longer_one o n = by (list_any (λ m. eqb m n) o)
   where
     by : (t : Bool) → Longer (cond t o (o ++ n ∷ [])) o
     by true = record { more = []; same = sym (append-nil o) }
@@ -65,22 +65,20 @@ module _ (ns : List ℕ) where
   one_index o n ms e =
       let l = longer (listed o n) ms in
       let low = place_low n ns in
-      elim (cases_Bool (leb (place n o) (length o))) [
-        | inl t ↦
-            (let there = leb-true (place n o) (length o) t in
-            let old : listed o n ≡ o = cond-true (leb (place n o) (length o)) o (o ++ n ∷ []) t in
-            let whole : ns ≡ o ++ l.more = e ∙ l.same ∙ ap (λ x. x ++ l.more) old in
-            let at : place n ns ≡ place n o = ap (place n) whole ∙ place_front n o l.more there in
-            let size = ap length whole ∙ length-append o l.more in
-            index_from o n low (omega arith) (omega arith) (omega (arith, ap length old)))
-        | inr f ↦
-            (let past = leb-false (place n o) (length o) f in
-            let new : listed o n ≡ o ++ n ∷ [] = cond-false (leb (place n o) (length o)) o (o ++ n ∷ []) f in
+      elim (cases_lt (length o) (place n o)) [
+        | inl past ↦
+            (let new = listed_new o n past in
             let whole : ns ≡ o ++ n ∷ l.more = e ∙ l.same ∙ ap (λ x. x ++ l.more) new ∙ append_assoc o (n ∷ []) l.more in
             let at : place n ns ≡ length o + 1 = ap (place n) whole ∙ place_end n o l.more past in
             let size = ap length whole ∙ length-append o (n ∷ l.more) in
             let grown = ap length new ∙ length_push o n in
             index_from o n low (omega arith) (omega arith) (omega arith))
+        | inr there ↦
+            (let old = listed_old o n there in
+            let whole : ns ≡ o ++ l.more = e ∙ l.same ∙ ap (λ x. x ++ l.more) old in
+            let at : place n ns ≡ place n o = ap (place n) whole ∙ place_front n o l.more there in
+            let size = ap length whole ∙ length-append o l.more in
+            index_from o n low (omega arith) (omega arith) (omega (arith, ap length old)))
       ]
 
   module _ (p : Pool) where

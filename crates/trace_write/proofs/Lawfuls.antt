@@ -1,10 +1,10 @@
 -- What is saved is a trace that a file can hold: it is read back.
-use Rattle.std.proofs.Common.{◌≡◌, ℕ, ◌-◌, ◌≤◌, Bool, true, false, cond, leb, List, [], ◌∷◌, ◌++◌, map, length, Ok, sym, refl, ap, ◌∙◌, subst, inl, inr, append_assoc, arith}
+use Rattle.std.proofs.Common.{◌≡◌, ℕ, ◌-◌, ◌≤◌, Bool, true, false, cond, eqb, leb, List, [], ◌∷◌, ◌++◌, map, length, Ok, sym, refl, ap, ◌∙◌, subst, inl, inr, append_assoc, arith}
 use Rattle.std.proofs.ByRecursion.{All-push, All-weaker}
 use Rattle.std.proofs.lemmas.Slice.Eq.{bytes_eq-Decides}
 use Rattle.std.proofs.lemmas.List.{length-map, map_push}
-use Rattle.std.proofs.lemmas.Bool.{and_from, or_from, not_from_false, le-leb, leb-false, eq-eqb, cases_Bool, cases_order}
-use Rattle.std.specs.List.{flat_map, AllByRecursion}
+use Rattle.std.proofs.lemmas.Bool.{and_from, or_from, not_from_false, le-leb, eq-eqb, cases_Bool, cases_order}
+use Rattle.std.specs.List.{flat_map, list_any, AllByRecursion}
 use Rattle.std.specs.Str.{bytes_eq}
 use Rattle.model.specs.Contents.{Pool, count, content, mem}
 use Rattle.model.specs.Records.{Record}
@@ -16,17 +16,17 @@ use Rattle.trace_write.proofs.Indices.{all_records}
 use Rattle.trace_write.proofs.Lists.{not_there, apart_push, no_more}
 use Rattle.trace_write.proofs.Selects.{In, chosen_ok, with_command, chosen_all, all_numbers}
 use Rattle.trace_write.specs.Rooms.{Apart}
-use Rattle.trace_write.specs.Saves.{chosen, place, listed, numbers_in, order, indexed, to_save}
+use Rattle.trace_write.specs.Saves.{chosen, listed, numbers_in, order, indexed, to_save}
 
 -- THE ORDER: numbers of the pool, each once
 
 module _ (P : ℕ → Type 0) where
   once_more : (o : List ℕ) (n : ℕ) → AllByRecursion P o → Apart o → P n → AllByRecursion P (listed o n) × Apart (listed o n)
-  once_more o n a b c = by (leb (place n o) (length o)) refl
+  once_more o n a b c = by (list_any (λ m. eqb m n) o) refl
     where
-      by : (t : Bool) → leb (place n o) (length o) ≡ t → AllByRecursion P (cond t o (o ++ n ∷ [])) × Apart (cond t o (o ++ n ∷ []))
+      by : (t : Bool) → list_any (λ m. eqb m n) o ≡ t → AllByRecursion P (cond t o (o ++ n ∷ [])) × Apart (cond t o (o ++ n ∷ []))
       by true e = (a, b)
-      by false e = (All-push P o n a c, apart_push o n b (not_there n o (leb-false (place n o) (length o) e)))
+      by false e = (All-push P o n a c, apart_push o n b (not_there n o e))
 
   pub all_once : (o ms : List ℕ) → AllByRecursion P o → Apart o → AllByRecursion P ms → AllByRecursion P (after listed o ms) × Apart (after listed o ms)
   all_once o [] a b c = (a, b)

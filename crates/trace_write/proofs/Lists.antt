@@ -1,49 +1,78 @@
 -- Places of numbers in a list, numbers that are listed once, and how many there can be.
-use Rattle.std.proofs.Common.{◌≡◌, ℕ, zero, suc, ◌+◌, ◌<◌, ◌≤◌, Bool, true, false, cond, eqb, leb, List, [], ◌∷◌, ◌++◌, length, Some, None, sym, refl, subst, inl, inr, arith}
+use Rattle.std.proofs.Common.{◌≡◌, ℕ, zero, suc, ◌+◌, ◌<◌, ◌≤◌, Bool, true, false, cond, not, ◌||◌, eqb, leb, ltb, List, [], ◌∷◌, ◌++◌, length, Some, None, unwrap_or, sym, refl, ap, ◌∙◌, subst, inl, inr, arith}
 use Rattle.std.proofs.ByRecursion.{All-push}
-use Rattle.std.proofs.lemmas.Bool.{cond-true, cond-false, eq-eqb, ne_eqb, le-leb, lt-leb, cases_eq, cases_lt}
-use Rattle.std.proofs.lemmas.Option.{none-some}
-use Rattle.std.specs.List.{AllByRecursion, position_from}
+use Rattle.std.proofs.lemmas.Bool.{or_parts, cond-true, cond-false, eq-eqb, ne_eqb, eqb-false, le-leb, lt-leb, lt-ltb, le-ltb, cases_eq, cases_lt}
+use Rattle.std.proofs.lemmas.Iterator.Adapters.{position_from-zero}
+use Rattle.std.proofs.lemmas.List.Sums.{prefix_len-le-length}
+use Rattle.std.specs.List.{AllByRecursion, list_any, position_from, position_or_len}
 use Rattle.trace_write.specs.Rooms.{Apart}
-use Rattle.trace_write.specs.Saves.{place}
+use Rattle.trace_write.specs.Saves.{place, listed}
 
 -- PLACES
 
 pub place_same : (n m : ℕ) (ms : List ℕ) → n ≡ m → place n (m ∷ ms) ≡ 1
-place_same n m ms e = cond-true (eqb n m) 1 (suc (place n ms)) (eq-eqb n m e)
+place_same n m ms e = ap (λ b. cond (not b) (1 + position_or_len (λ k. eqb k n) ms) 0 + 1) (eq-eqb m n (sym e))
 
 pub place_other : (n m : ℕ) (ms : List ℕ) → (n ≡ m → ⊥) → place n (m ∷ ms) ≡ suc (place n ms)
-place_other n m ms ne = cond-false (eqb n m) 1 (suc (place n ms)) (ne_eqb n m ne)
+place_other n m ms ne =
+    let rest = position_or_len (λ k. eqb k n) ms in
+    let z : 1 + rest + 1 ≡ suc (rest + 1) = omega arith in
+    ap (λ b. cond (not b) (1 + rest) 0 + 1) (ne_eqb m n (λ e. ne (sym e))) ∙ z
 
 pub place_low : (n : ℕ) (ms : List ℕ) → 1 ≤ place n ms
-place_low n [] = omega arith
-place_low n (m ∷ ms) = elim (cases_eq n m) [ inl e ↦ omega (arith, place_same n m ms e) | inr ne ↦ omega (arith, place_other n m ms ne) ]
+place_low n ms = omega arith
 
 -- as a search tells it
-pub place_found : (n k i : ℕ) (ms : List ℕ) → position_from (λ m. eqb n m) k ms ≡ Some i → i + 1 ≡ k + place n ms
-place_found n k i [] e = absurd (none-some i e)
-place_found n k i (m ∷ ms) e = by (eqb n m) e (place_found n (k + 1) i ms)
+pub place_told : (n : ℕ) (ms : List ℕ) → unwrap_or (position_from (λ m. eqb m n) 0 ms) (length ms) + 1 ≡ place n ms
+place_told n ms =
+    ap (λ o. unwrap_or o (length ms) + 1) (sym (position_from-zero (λ m. eqb m n) ms))
+    ∙ ap (λ k. k + 1) (by (position_or_len (λ m. eqb m n) ms) (length ms) (prefix_len-le-length (λ m. not (eqb m n)) ms))
   where
-    by : (b : Bool) → cond b (Some k) (position_from (λ j. eqb n j) (k + 1) ms) ≡ Some i → (position_from (λ j. eqb n j) (k + 1) ms ≡ Some i → i + 1 ≡ k + 1 + place n ms) → i + 1 ≡ k + cond b 1 (suc (place n ms))
-    by true f more = let z : k ≡ i = cc in omega arith
-    by false f more = let z = more f in omega arith
+    by : (k l : ℕ) → k ≤ l → unwrap_or (cond (ltb k l) (Some k) None) l ≡ k
+    by k l h =
+        elim (cases_lt k l) [
+          | inl lt ↦ ap (λ o. unwrap_or o l) (cond-true (ltb k l) (Some k) None (lt-ltb k l lt))
+          | inr le ↦ ap (λ o. unwrap_or o l) (cond-false (ltb k l) (Some k) None (le-ltb k l le)) ∙ omega arith
+        ]
 
-pub place_nowhere : (n k : ℕ) (ms : List ℕ) → position_from (λ m. eqb n m) k ms ≡ None → length ms + 1 ≡ place n ms
-place_nowhere n k [] e = omega arith
-place_nowhere n k (m ∷ ms) e = by (eqb n m) e (place_nowhere n (k + 1) ms)
-  where
-    by : (b : Bool) → cond b (Some k) (position_from (λ j. eqb n j) (k + 1) ms) ≡ None → (position_from (λ j. eqb n j) (k + 1) ms ≡ None → length ms + 1 ≡ place n ms) → suc (length ms) + 1 ≡ cond b 1 (suc (place n ms))
-    by true f more = absurd (none-some k (sym f))
-    by false f more = let z = more f in omega arith
-
--- a number that is past the last place is not there
-pub not_there : (n : ℕ) (ms : List ℕ) → length ms < place n ms → AllByRecursion (λ m. m ≡ n → ⊥) ms
-not_there n [] h = tt
-not_there n (m ∷ ms) h =
+-- a number is there where its place is no more than the last
+place_there : (n : ℕ) (ms : List ℕ) → list_any (λ m. eqb m n) ms ≡ true → place n ms ≤ length ms
+place_there n [] e = let z : ◌≡◌ {A = ℕ} 0 1 = cc in absurd (omega arith)
+place_there n (m ∷ ms) e =
     elim (cases_eq n m) [
-      | inl e ↦ absurd (let a = place_same n m ms e in omega arith)
-      | inr ne ↦ (let a = place_other n m ms ne in (λ e. ne (sym e), not_there n ms (omega arith)))
+      | inl s ↦ (let a = place_same n m ms s in omega arith)
+      | inr ne ↦
+          (let a = place_other n m ms ne in
+          let rest = ap (λ b. b || list_any (λ k. eqb k n) ms) (sym (ne_eqb m n (λ s. ne (sym s)))) ∙ e in
+          let b = place_there n ms rest in omega arith)
     ]
+
+place_past : (n : ℕ) (ms : List ℕ) → list_any (λ m. eqb m n) ms ≡ false → length ms < place n ms
+place_past n [] e = omega arith
+place_past n (m ∷ ms) e =
+    let t = or_parts (eqb m n) (list_any (λ k. eqb k n) ms) e in
+    let a = place_other n m ms (λ s. eqb-false m n t.0 (sym s)) in
+    let b = place_past n ms t.1 in
+    omega arith
+
+pub not_there : (n : ℕ) (ms : List ℕ) → list_any (λ m. eqb m n) ms ≡ false → AllByRecursion (λ m. m ≡ n → ⊥) ms
+not_there n [] e = tt
+not_there n (m ∷ ms) e = let t = or_parts (eqb m n) (list_any (λ k. eqb k n) ms) e in (eqb-false m n t.0, not_there n ms t.1)
+
+-- so it is listed where it is past the last, and only there
+pub listed_old : (ns : List ℕ) (n : ℕ) → place n ns ≤ length ns → listed ns n ≡ ns
+listed_old ns n h = by (list_any (λ m. eqb m n) ns) (place_past n ns)
+  where
+    by : (b : Bool) → (b ≡ false → length ns < place n ns) → cond b ns (ns ++ n ∷ []) ≡ ns
+    by true f = refl
+    by false f = absurd (let z = f refl in omega arith)
+
+pub listed_new : (ns : List ℕ) (n : ℕ) → length ns < place n ns → listed ns n ≡ ns ++ n ∷ []
+listed_new ns n h = by (list_any (λ m. eqb m n) ns) (place_there n ns)
+  where
+    by : (b : Bool) → (b ≡ true → place n ns ≤ length ns) → cond b ns (ns ++ n ∷ []) ≡ ns ++ n ∷ []
+    by true f = absurd (let z = f refl in omega arith)
+    by false f = refl
 
 -- NUMBERS THAT ARE LISTED ONCE
 

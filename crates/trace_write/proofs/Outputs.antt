@@ -1,14 +1,14 @@
 -- The file as four parts, and how long it is.
-use Rattle.std.proofs.Common.{◌≡◌, ℕ, ◌+◌, ◌*◌, List, ◌++◌, map, length, sym, ap, ◌∙◌, arith}
+use Rattle.std.proofs.Common.{◌≡◌, ℕ, ◌+◌, List, ◌++◌, map, length, sym, ap, ◌∙◌, arith}
 use Rattle.std.proofs.lemmas.List.{length-append, length-map}
-use Rattle.std.specs.List.{flat_map, sum_by}
+use Rattle.std.proofs.lemmas.List.Folds.{flat_map-map}
+use Rattle.std.specs.List.{flat_map}
 use Rattle.model.specs.Contents.{Pool, content}
 use Rattle.model.specs.Records.{said}
 use Rattle.model.specs.Load.{Traced}
 use Rattle.model.specs.declared.record.Record as Code
 use Rattle.trace.specs.Format.{content_bytes, record_bytes, encoded}
 use Rattle.trace.specs.Reads.{two_bytes}
-use Rattle.trace_write.proofs.Sizes.{joined_map, content_size, record_size, pieces_size}
 use Rattle.trace_write.specs.Puts.{content_of, record_of}
 use Rattle.trace_write.specs.Saves.{indexed, traced}
 
@@ -27,9 +27,9 @@ module _ (p : Pool) (ns : List ℕ) (rs : List Code.Record) where
       let cs = map (content p) ns in
       let ss = map said rs in
       let count = length-map ss (indexed ns) ∙ length-map rs said in
-      let records = joined_map record_bytes (indexed ns) ss ∙ joined_map (λ s. record_bytes (indexed ns s)) said rs in
+      let records = flat_map-map record_bytes (indexed ns) ss ∙ flat_map-map (λ s. record_bytes (indexed ns s)) said rs in
       ap (λ n. ((two_bytes n ++ flat_map (content_of p) ns) ++ two_bytes (length rs)) ++ flat_map (record_of ns) rs) (sym (length-map ns (content p)))
-      ∙ ap (λ l. ((two_bytes (length cs) ++ l) ++ two_bytes (length rs)) ++ flat_map (record_of ns) rs) (sym (joined_map content_bytes (content p) ns))
+      ∙ ap (λ l. ((two_bytes (length cs) ++ l) ++ two_bytes (length rs)) ++ flat_map (record_of ns) rs) (sym (flat_map-map content_bytes (content p) ns))
       ∙ ap (λ n. ((two_bytes (length cs) ++ flat_map content_bytes cs) ++ two_bytes n) ++ flat_map (record_of ns) rs) (sym count)
       ∙ ap (λ l. ((two_bytes (length cs) ++ flat_map content_bytes cs) ++ two_bytes (length (map (indexed ns) ss))) ++ l) (sym records)
 
@@ -42,10 +42,3 @@ module _ (p : Pool) (ns : List ℕ) (rs : List Code.Record) where
 
   pub encoded_size : length (encoded trace) ≡ 4 + length (flat_map (content_of p) ns) + length (flat_map (record_of ns) rs)
   encoded_size = ap length (sym encoded_is) ∙ size
-
-  pub encoded_sum : length (encoded trace) ≡ 4 + sum_by (λ n. 2 + length (content p n)) ns + sum_by (λ r. 9 + 3 * length (said r).reads) rs
-  encoded_sum =
-      let a = encoded_size in
-      let b = pieces_size (content_of p) (λ n. 2 + length (content p n)) (content_size p) ns in
-      let c = pieces_size (record_of ns) (λ r. 9 + 3 * length (said r).reads) (record_size ns) rs in
-      omega arith

@@ -3,24 +3,24 @@ use Rattle.std.proofs.Common.{◌≡◌, ℕ, zero, suc, ◌+◌, ◌-◌, ◌<�
 use Rattle.std.proofs.lemmas.Slice.Eq.{bytes_eq-Decides}
 use Rattle.std.proofs.ByRecursion.{All-push, All-weaker}
 use Rattle.std.proofs.lemmas.List.{length_push, map_push, take_more, take_all}
-use Rattle.std.proofs.lemmas.Bool.{cond-true, cond-false, and_parts, and_from, or_parts, not-true, not_from_false, le-leb, lt-leb, leb-true, lt-ltb, eqb-true, eqb-false, cases_eq, cases_lt}
+use Rattle.std.proofs.lemmas.Bool.{cond-true, cond-false, and_parts, and_from, or_parts, not-true, not_from_false, le-leb, leb-true, lt-ltb, eqb-true, eqb-false, cases_eq, cases_lt}
 use Rattle.std.specs.List.{flat_map, list_all, AllByRecursion}
 use Rattle.std.specs.Str.{bytes_eq}
 use Rattle.model.specs.Contents.{Content, Pool, mem, find, up, fits, given, put, content}
 use Rattle.model.specs.Records.{Record}
-use Rattle.model.specs.Book.{same_command, own, hint}
+use Rattle.model.specs.Book.{unstruck, same_command, own, hint}
 use Rattle.model.specs.Load.{Traced, puts, numbered, hints}
-use Rattle.model.specs.declared.record.Standing.{Standing}
-use Rattle.model.specs.declared.record.Standing.TheVariants.{Hint, Own, Struck}
+use Rattle.model.specs.declared.record.Standing.TheVariants.{Hint}
 use Rattle.model.specs.declared.record.Use.{Use}
 use Rattle.trace.proofs.Accepted.{accepted}
+use Rattle.trace.proofs.Forths.{hint_forth}
 use Rattle.trace.specs.Format.{Before, start, noted, raised, higher, push, content_ok, index_ok, use_ok, is_hint, count_ok, files_ok, known_command, record_ok, decoded, encoded, lawful}
 use Rattle.trace.specs.Laws.{Bytes}
 use Rattle.trace.specs.Reads.{after, each}
 use Rattle.trace_write.proofs.Indices.{place_front, place_end}
-use Rattle.trace_write.proofs.Lists.{place_other}
-use Rattle.trace_write.proofs.Orders.{after_append}
-use Rattle.trace_write.specs.Saves.{unstruck, use_savable, savable, is_new, choice, chosen, numbers_in, place, listed, order, indexed_use, indexed, traced, to_save}
+use Rattle.trace_write.proofs.Lists.{place_other, listed_old, listed_new}
+use Rattle.trace.proofs.Chains.{after_append}
+use Rattle.trace_write.specs.Saves.{use_savable, savable, is_new, choice, chosen, numbers_in, place, listed, order, indexed_use, indexed, traced, to_save}
 
 -- THE CONTENTS ARE PUT IN ORDER
 
@@ -117,13 +117,13 @@ list_upto h i a b =
           (let past = place_above i h lt in
           let same : i ≡ suc h = omega arith in
           let top : max h i ≡ suc h = omega arith in
-          cond-false (leb (place i (upto h)) (length (upto h))) (upto h) (upto h ++ i ∷ []) (lt-leb _ _ (omega arith))
+          listed_new (upto h) i (omega arith)
           ∙ ap (λ k. upto h ++ k ∷ []) same
           ∙ ap upto (sym top))
       | inr le ↦
           (let at = place_upto h i a le in
           let top : max h i ≡ h = omega arith in
-          cond-true (leb (place i (upto h)) (length (upto h))) (upto h) (upto h ++ i ∷ []) (le-leb _ _ (omega arith)) ∙ ap upto (sym top))
+          listed_old (upto h) i (omega arith) ∙ ap upto (sym top))
     ]
 
 -- THE RECORDS KEEP THEIR INDICES
@@ -187,18 +187,13 @@ record_listed n s r l =
     ∙ ap (λ o. listed o r.write.number) (uses_listed n s.high r.reads l.reads)
     ∙ list_upto h r.write.number w.low w.next
 
-is_hinted : (s : Standing) → is_hint s ≡ true → Hint ≡ s
-is_hinted Hint e = refl
-is_hinted Own e = let z : ◌≡◌ {A = ℕ} 0 1 = cc in absurd (omega arith)
-is_hinted Struck e = let z : ◌≡◌ {A = ℕ} 0 1 = cc in absurd (omega arith)
-
 -- a record whose uses and standing are left as they are
 record_same : (n : ℕ) (s : Before) (r : Record) (f : Use → Use) → ((g : ℕ) (u : Use) → LawfulUse n g u → f u ≡ u) → LawfulRecord n s r → ◌≡◌ {A = Record} (record { command = r.command; reads = map f r.reads; write = f r.write; standing = Hint }) r
 record_same n s r f one l =
     let h = after higher s.high r.reads in
     ap (λ us. record { command = r.command; reads = us; write = f r.write; standing = Hint }) (uses_same n s.high f one r.reads l.reads)
     ∙ ap (λ u. record { command = r.command; reads = r.reads; write = u; standing = Hint }) (one h r.write (use_lawful n h r.write l.write))
-    ∙ ap (λ t. record { command = r.command; reads = r.reads; write = r.write; standing = t }) (is_hinted r.standing l.standing)
+    ∙ ap (λ t. record { command = r.command; reads = r.reads; write = r.write; standing = t }) (hint_forth r.standing l.standing)
 
 -- THE RECORDS ARE TAKEN AND CHOSEN IN ORDER
 
@@ -239,7 +234,7 @@ module _ (cs : List Content) (q : Pool) (same : q.contents ≡ cs) (ok : each co
   savable_is : (s : Before) (r : Record) → LawfulRecord n s r → savable q r ≡ true
   savable_is s r l =
       let h = after higher s.high r.reads in
-      let hinted = ap unstruck (sym (is_hinted r.standing l.standing)) in
+      let hinted = ap unstruck (sym (hint_forth r.standing l.standing)) in
       and_from _ _ hinted
       (and_from _ _ l.files
       (and_from _ _ l.count (and_from _ _ (uses_pass n s.high (use_savable q) use_passes r.reads l.reads) (use_passes h r.write (use_lawful n h r.write l.write)))))

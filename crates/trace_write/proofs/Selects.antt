@@ -1,9 +1,10 @@
--- What is so of the records that are chosen: each may be saved, no two have one command, and there are no more than 256.
+-- What is so of the records that are chosen: each may be saved, no two have one command, and there are at most 256.
 use Rattle.std.proofs.Common.{◌≡◌, ℕ, ◌≤◌, Bool, true, false, cond, not, ◌&&◌, ltb, leb, List, [], ◌∷◌, ◌++◌, map, length, sym, refl, ap, ◌∙◌, append_assoc, append-nil, arith}
-use Rattle.std.proofs.ByRecursion.{All-append}
+use Rattle.std.proofs.ByRecursion.{All-append, All-weaker}
 use Rattle.std.proofs.lemmas.List.{length_push}
 use Rattle.std.proofs.lemmas.Bool.{and_parts, and_from, leb-true, ltb-true}
 use Rattle.std.specs.List.{flat_map, list_all, AllByRecursion}
+use Rattle.model.specs.Book.{unstruck}
 use Rattle.model.specs.Contents.{Pool, count, holds}
 use Rattle.model.specs.Records.{Record, said}
 use Rattle.model.specs.declared.command.Command.{Command}
@@ -13,7 +14,7 @@ use Rattle.pool.specs.Sound.{Sound}
 use Rattle.trace.specs.Format.{push, count_ok, files_ok, known_command}
 use Rattle.trace.specs.Reads.{after, each}
 use Rattle.trace_write.specs.Rooms.{Number, Named}
-use Rattle.trace_write.specs.Saves.{unstruck, use_savable, savable, is_new, choice, numbers_in}
+use Rattle.trace_write.specs.Saves.{use_savable, savable, is_new, choice, numbers_in}
 
 abbrev pub with_command : List Command → Record → List Command
 with_command cs r = push cs r.command
@@ -86,8 +87,7 @@ module _ (p : Pool) where
       All-append (In p) (numbers_in s) (flat_map numbers_in ss) (numbers_in_pool s b.0) (all_numbers (push cs s.command) ss a.1)
 
   in_number : Sound p → (ns : List ℕ) → AllByRecursion (In p) ns → AllByRecursion Number ns
-  in_number sound [] a = tt
-  in_number sound (n ∷ ns) a = ((a.0.0, omega (arith, a.0.1, sound.count, sound.places)), in_number sound ns a.1)
+  in_number sound = All-weaker (In p) Number (λ n h. (h.0, omega (arith, h.1, sound.count, sound.places)))
 
   pub all_named : Sound p → (cs : List Command) (rs : List Code.Record) → each chosen_ok with_command cs (map said rs) ≡ true → AllByRecursion Named rs
   all_named sound cs [] e = tt

@@ -1,10 +1,11 @@
 -- How many bytes contents, uses and records take, and that they are not too many to be added up.
 use Rattle.std.proofs.Common.{◌≡◌, ℕ, ◌+◌, ◌-◌, ◌*◌, ◌≤◌, min, List, [], ◌∷◌, ◌++◌, map, length, get_or, sym, refl, ap, ◌∙◌, inl, inr, arith}
 use Rattle.std.proofs.lemmas.List.{length-append, length-map, length-take, get_or_past}
-use Rattle.std.proofs.lemmas.List.Recursion.{is_sum_by}
+use Rattle.std.proofs.lemmas.List.Folds.{flat_map-map}
+use Rattle.std.proofs.lemmas.List.Concat.{length-flat_map}
 use Rattle.std.proofs.lemmas.List.Sums.{sum_by-le}
 use Rattle.std.proofs.lemmas.Bool.{cases_lt}
-use Rattle.std.specs.List.{flat_map, sum_by}
+use Rattle.std.specs.List.{flat_map}
 use Rattle.model.specs.Contents.{Pool, content}
 use Rattle.model.specs.Records.{said}
 use Rattle.model.specs.declared.record.Record as Code
@@ -13,13 +14,6 @@ use Rattle.pool.specs.Sound.{Sound}
 use Rattle.trace.specs.Format.{command_bytes, use_bytes}
 use Rattle.trace_write.specs.Puts.{content_of, use_of, record_of}
 use Rattle.trace_write.specs.Saves.{indexed_use}
-
-pub joined_map : {X Y : Type 0} (f : Y → List ℕ) (g : X → Y) (xs : List X) → flat_map f (map g xs) ≡ flat_map (λ x. f (g x)) xs
-joined_map f g [] = refl
-joined_map f g (x ∷ xs) = ap (λ l. f (g x) ++ l) (joined_map f g xs)
-
-pub content_size : (p : Pool) (n : ℕ) → length (content_of p n) ≡ 2 + length (content p n)
-content_size p n = omega arith
 
 pub uses_size : (ns : List ℕ) (us : List Use) → length (flat_map (use_of ns) us) ≡ 3 * length us
 uses_size ns [] = refl
@@ -33,7 +27,7 @@ pub fields_are : (ns : List ℕ) (r : Code.Record) → fields ns r (said r).read
 fields_are ns r =
     let us = (said r).reads in
     ap (λ k. ((command_bytes r.command ++ k ∷ []) ++ flat_map (use_of ns) us) ++ use_of ns r.write) (sym (length-map us (indexed_use ns)))
-    ∙ ap (λ l. ((command_bytes r.command ++ length (map (indexed_use ns) us) ∷ []) ++ l) ++ use_of ns r.write) (sym (joined_map use_bytes (indexed_use ns) us))
+    ∙ ap (λ l. ((command_bytes r.command ++ length (map (indexed_use ns) us) ∷ []) ++ l) ++ use_of ns r.write) (sym (flat_map-map use_bytes (indexed_use ns) us))
 
 pub fields_size : (ns : List ℕ) (r : Code.Record) (us : List Use) → length (fields ns r us) ≡ 9 + 3 * length us
 fields_size ns r us =
@@ -45,12 +39,6 @@ fields_size ns r us =
 pub record_size : (ns : List ℕ) (r : Code.Record) → length (record_of ns r) ≡ 9 + 3 * length (said r).reads
 record_size ns r = ap length (sym (fields_are ns r)) ∙ fields_size ns r (said r).reads
 
--- the length of pieces is the sum of their lengths
-pub pieces_size : {X : Type 0} (enc : X → List ℕ) (size : X → ℕ) → ((x : X) → length (enc x) ≡ size x) → (xs : List X) → length (flat_map enc xs) ≡ sum_by size xs
-pieces_size enc size same =
-    is_sum_by (λ xs. length (flat_map enc xs)) size refl
-    (λ x xs. length-append (enc x) (flat_map enc xs) ∙ ap (λ n. n + length (flat_map enc xs)) (same x))
-
 -- HOW LARGE THEY CAN BE
 
 content_short : (p : Pool) → Sound p → (n : ℕ) → length (content p n) ≤ 4096
@@ -60,12 +48,16 @@ content_short p sound n =
       | inr h ↦ (let e = ap length (get_or_past p.contents (n - 1) [] h) in omega arith)
     ]
 
-pub contents_low : (p : Pool) → Sound p → (ns : List ℕ) → sum_by (λ n. 2 + length (content p n)) ns ≤ length ns * 4098
+pub contents_low : (p : Pool) → Sound p → (ns : List ℕ) → length (flat_map (content_of p) ns) ≤ length ns * 4098
 contents_low p sound ns =
-    sum_by-le (λ n. 2 + length (content p n)) 4098 ns (λ k d h. let s = content_short p sound (get_or ns k d) in omega arith)
+    let low = sum_by-le (λ n. length (content_of p n)) 4098 ns (λ k d h. let s = content_short p sound (get_or ns k d) in omega arith) in
+    omega (arith, length-flat_map (content_of p) ns)
 
 reads_few : (r : Code.Record) → length (said r).reads ≤ 16
 reads_few r = let l = length-take (min r.count 16) r.reads in omega arith
 
-pub records_low : (rs : List Code.Record) → sum_by (λ r. 9 + 3 * length (said r).reads) rs ≤ length rs * 57
-records_low rs = sum_by-le (λ r. 9 + 3 * length (said r).reads) 57 rs (λ k d h. let s = reads_few (get_or rs k d) in omega arith)
+pub records_low : (ns : List ℕ) (rs : List Code.Record) → length (flat_map (record_of ns) rs) ≤ length rs * 57
+records_low ns rs =
+    let low =
+    sum_by-le (λ r. length (record_of ns r)) 57 rs (λ k d h. let s = reads_few (get_or rs k d) in let l = record_size ns (get_or rs k d) in omega arith) in
+    omega (arith, length-flat_map (record_of ns) rs)

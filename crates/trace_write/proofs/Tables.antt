@@ -1,7 +1,7 @@
 -- The tables that a save makes hold what is to be saved, and what it writes is accepted.
-use Rattle.std.proofs.Common.{◌≡◌, ℕ, ◌+◌, Bool, true, false, leb, List, [], map, length, take, drop, IfOk, Ok, Err, Result, sym, refl, ap, ◌∙◌, subst, arith}
+use Rattle.std.proofs.Common.{◌≡◌, ℕ, ◌+◌, Bool, true, false, leb, List, [], map, length, take, drop, IfOk, Ok, Err, Result, sym, refl, ap, ◌∙◌, subst}
 use Rattle.std.proofs.lemmas.List.{take_at}
-use Rattle.std.proofs.lemmas.Bool.{cond-true, cond-false, leb-true}
+use Rattle.std.proofs.lemmas.Bool.{cond-true, cond-false}
 use Rattle.std.specs.List.{AllByRecursion}
 use Rattle.model.specs.Contents.{Pool}
 use Rattle.model.specs.Records.{Record, said}
@@ -11,7 +11,6 @@ use Rattle.model.specs.declared.refusal.Refusal.{Refusal}
 use Rattle.model.specs.declared.refusal.Refusal.TheVariants.{SaveBufferShort}
 use Rattle.pool.specs.Sound.{Sound}
 use Rattle.output.specs.Writes.{laid}
-use Rattle.output.proofs.Laid.{laid_among}
 use Rattle.trace.specs.Format.{decoded, encoded}
 use Rattle.trace.specs.Reads.{each}
 use Rattle.trace_write.proofs.Lawfuls.{chosen_are}
@@ -35,7 +34,7 @@ module _ (t : Traced) (bs : List ℕ) where
       by : (b : Bool) → leb (length (encoded t)) (length bs) ≡ b → IfOk r (λ n. decoded (take n ds) ≡ Ok t)
       by true h =
           let answer = e ∙ cond-true (leb (length (encoded t)) (length bs)) (Ok (length (encoded t))) (Err SaveBufferShort) h in
-          let whole = f ∙ cond-true (leb (length (encoded t)) (length bs)) (laid 0 (encoded t) bs) bs h ∙ laid_among 0 (encoded t) bs (omega (arith, leb-true (length (encoded t)) (length bs) h)) in
+          let whole = f ∙ cond-true (leb (length (encoded t)) (length bs)) (laid 0 (encoded t) bs) bs h in
           let front = ap (take (length (encoded t))) whole ∙ take_at (encoded t) (drop (0 + length (encoded t)) bs) (length (encoded t)) refl in
           subst (λ q. IfOk q (λ n. decoded (take n ds) ≡ Ok t)) (sym answer) (ap decoded front ∙ back)
       by false h =

@@ -43,7 +43,8 @@ seen p u = record { file = u.file; bytes = told p u.number }
 abbrev pub shown : Pool → Record → Shown
 shown p r = record { command = r.command; reads = map (seen p) r.reads; write = seen p r.write }
 
--- The contents and records of a saved file, taken into an empty pool and an empty book, are the records that were saved, content for content, as hints.
+-- The contents and records of a saved file, taken into an empty pool and an empty book, are the records that were
+-- saved, content for content, as hints.
 -- e is the empty pool; q is the pool that takes all the contents.
 abbrev pub BroughtBack : Type 0
 BroughtBack =
@@ -54,8 +55,8 @@ BroughtBack =
     → let hs = hints (to_save p rs).contents q (to_save p rs).records [] in
     (map (shown q) hs ≡ map (shown p) (chosen p rs)) × (map (λ r. r.standing) hs ≡ map (λ r. Hint) (chosen p rs))
 
--- A FILE THAT WAS LOADED into an empty pool and an empty book, which are q and rs then: saved, it gives its own bytes; and where it was saved from a pool p and
--- records ss, what was saved comes back, content for content, as hints.
+-- A FILE THAT WAS LOADED into an empty pool and an empty book, which are q and rs then: saved, it gives its own bytes;
+-- and where it was saved from a pool p and records ss, what was saved comes back, content for content, as hints.
 pub record RoundTrip (bs : List ℕ) (q : Pool) (rs : List Record) : Type 0 where
   pub again : encoded (to_save q rs) ≡ bs
   pub back :

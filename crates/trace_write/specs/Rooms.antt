@@ -1,4 +1,5 @@
--- What is always so of the numbers that are listed: they are numbers of a pool, and no two are the same. So 1,024 places are enough.
+-- What is always so of the numbers that are listed: they are numbers of a pool, and no two are the same. So 1,024
+-- places are enough.
 use Rattle.std.specs.Prelude.{ℕ, ◌≤◌, List, [], ◌∷◌, ◌≢◌}
 use Rattle.std.specs.Coded.{×_prop, →_prop, Unit-prop, le_prop}
 use Rattle.std.specs.List.{AllByRecursion, AllByRecursion-prop}
@@ -18,7 +19,7 @@ Apart (n ∷ ns) = AllByRecursion (λ m. n ≢ m) ns × Apart ns
 abbrev pub Named : Code.Record → Type 0
 Named r = AllByRecursion Number (numbers_in (said r))
 
--- each is so in one way only
+-- each has at most one proof, which a fact in a type's own definition needs
 pub Number-prop : (n : ℕ) → IsProp (Number n)
 Number-prop n = ×_prop le_prop le_prop
 

@@ -1,21 +1,16 @@
 -- Which trace save writes, of a pool and the records of a book.
-use Rattle.std.specs.Prelude.{ℕ, suc, Bool, true, false, cond, not, ◌&&◌, List, [], ◌∷◌, ◌++◌, map, length, ◌==◌, nat_le, nat_lt}
-use Rattle.std.specs.List.{flat_map, list_all}
+use Rattle.std.specs.Prelude.{ℕ, ◌+◌, Bool, cond, not, ◌&&◌, List, [], ◌∷◌, ◌++◌, map, length, ◌==◌, nat_le, nat_lt}
+use Rattle.std.specs.List.{flat_map, list_all, list_any, position_or_len}
+use Rattle.model.specs.Book.{unstruck}
 use Rattle.model.specs.Contents.{Pool, holds, content}
 use Rattle.model.specs.Records.{Record}
 use Rattle.model.specs.Load.{Traced}
-use Rattle.model.specs.declared.record.Standing.{Standing}
-use Rattle.model.specs.declared.record.Standing.TheVariants.{Hint, Own, Struck}
+use Rattle.model.specs.declared.record.Standing.TheVariants.{Hint}
 use Rattle.model.specs.declared.record.Use.{Use}
 use Rattle.trace.specs.Format.{count_ok, files_ok, known_command}
 use Rattle.trace.specs.Reads.{after}
 
 -- WHICH RECORDS: those that are not struck, whose numbers are all in the pool, and that a file can hold
-
-abbrev pub unstruck : Standing → Bool
-unstruck Hint = true
-unstruck Own = true
-unstruck Struck = false
 
 abbrev pub use_savable : Pool → Use → Bool
 use_savable p u = nat_le u.file 63 && holds p u.number
@@ -43,11 +38,11 @@ numbers_in r = map (λ u. u.number) r.reads ++ r.write.number ∷ []
 
 -- the place of a number in a list, counted from 1; one past the last where it is not there
 abbrev pub place : ℕ → List ℕ → ℕ
-place n [] = 1
-place n (m ∷ ms) = cond (n == m) 1 (suc (place n ms))
+place n ns = position_or_len (λ m. m == n) ns + 1
 
+-- the numbers, and after them one more unless it is there
 abbrev pub listed : List ℕ → ℕ → List ℕ
-listed ns n = cond (nat_le (place n ns) (length ns)) ns (ns ++ n ∷ [])
+listed ns n = cond (list_any (λ m. m == n) ns) ns (ns ++ n ∷ [])
 
 abbrev pub order : List Record → List ℕ
 order rs = after listed [] (flat_map numbers_in rs)

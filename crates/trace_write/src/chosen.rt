@@ -1,16 +1,17 @@
 ghost use Rattle.std.specs.Prelude.{◌≡◌, ◌&&◌, map};
 ghost use Rattle.std.specs.List.{list_all, AllByRecursion};
+ghost use Rattle.model.specs.Book.{unstruck};
 ghost use Rattle.model.specs.Records.{said};
 ghost use Rattle.pool.specs.Contents.{meant};
 ghost use Rattle.trace_write.specs.Rooms.{Named};
-ghost use Rattle.trace_write.specs.Saves.{unstruck, use_savable, savable, is_new, chosen};
+ghost use Rattle.trace_write.specs.Saves.{use_savable, savable, is_new, chosen};
 
 use arrayvec::ArrayVec;
 use model::{Record, Standing, Use};
 use pool::Pool;
 use trace::{files_ok, has_command};
 
-// Kept: the derived `!=`, under a name whose contract is the word of the definition.
+// Kept: the derived `!=`, under a name whose contract is the word by which the clause of `is_savable` is made up.
 fn unstruck(standing: Standing) -> bool
     ensures { result ≡ unstruck standing }
 {

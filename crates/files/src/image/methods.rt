@@ -1,6 +1,6 @@
 ghost use Rattle.std.specs.Prelude.{◌≡◌, ℕ, ◌<◌, true, List, replicate, is_ok, if◌then◌else◌};
 ghost use Rattle.files.specs.Images.{shown, means, filling};
-ghost use Rattle.files.specs.Layout.{Map, Rules, layout, mapped};
+ghost use Rattle.files.specs.Layout.{Map, Rules, layout};
 ghost use Rattle.files.specs.Trips.{mapped_long};
 ghost use Rattle.std.proofs.Common.{rules, arith};
 
@@ -49,7 +49,7 @@ impl Image {
 }
 
 impl FileStore for Image {
-    ghost map = { λ i. mapped i.bytes };
+    ghost map = { means };
 
     ghost long = { λ i. mapped_long i.bytes };
 

@@ -1,12 +1,14 @@
-ghost use Rattle.std.specs.Prelude.{◌≡◌, ◌+◌, ◌-◌, ◌<◌, ◌≤◌, [], ◌∷◌, ◌++◌, length, take, if◌then◌else◌, MatchOption, nat_le, nat_lt, slice_set};
-ghost use Rattle.std.specs.Fn.{FnOnceReturnsAtMut};
+ghost use Rattle.std.specs.Prelude.{◌≡◌, ◌+◌, ◌-◌, ◌<◌, [], ◌∷◌, ◌++◌, length, take, if◌then◌else◌, nat_le, nat_lt, slice_set};
 ghost use Rattle.std.specs.Option.{option_map};
 ghost use Rattle.std.specs.List.{slice_get};
+ghost use Rattle.lists.specs.Altered.{altered};
 ghost use Rattle.lists.specs.Held.{held, room};
 
 use super::Lent;
+use crate::change::Change;
 
-// Kept throughout: a bool tells whether there was room or a place, as a set's `insert` does; there is nothing to hand on.
+// Kept throughout: a bool tells whether there was room or a place, as a set's `insert` does; `engine` makes an error of it
+// where a text does not fit.
 
 impl<'a, T: Copy> Lent<'a, T> {
     /// An empty list with as much room as is lent.
@@ -95,16 +97,15 @@ impl<'a, T: Copy> Lent<'a, T> {
     }
 
     /// Changes the element at a place where it lies; false, and nothing changed, where nothing is held there.
-    pub fn change<F: FnOnce(&mut T)>(&mut self, at: usize, f: F) -> bool
-        requires { F.IsAlwaysCallable f }
+    pub fn change<C: Change<T>>(&mut self, at: usize, change: &C) -> bool
         ensures fits { result ≡ nat_lt at (length (held self.old)) }
-        ensures held { MatchOption (slice_get (held self.old) at) (held self.new ≡ held self.old) (λ old. (new : T) × FnOnceReturnsAtMut F.FnOnce f old tt new × (held self.new ≡ slice_set (held self.old) at new)) }
+        ensures held { held self.new ≡ altered (C.Change.changed change.now) (held self.old) at }
         ensures room { room self.new ≡ room self.old }
     {
         let is_held = at < self.len;
         if is_held {
             let items = &mut *self.items;
-            f(&mut items[at]);
+            change.apply(&mut items[at]);
         }
         is_held
     }

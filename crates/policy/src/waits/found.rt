@@ -5,6 +5,7 @@ ghost use Rattle.policy.specs.Waiting.{finds, reads_file, waits_by};
 
 use model::{Command, Record, Standing, Use, record_of};
 
+// Kept: commands and records are two parameters here, since they go together only while the table is made.
 /// The record that a line finds. A record counts as none if it is struck.
 pub fn found(commands: &[Command], records: &[Record], line: usize) -> Option<Record>
     ensures { option_map said result ≡ finds commands.now (map said records.now) line }

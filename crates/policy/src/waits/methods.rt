@@ -50,7 +50,7 @@ impl Waits {
         among.has(line) && !self.is_held_up(among, line)
     }
 
-    // Kept: the chain of `LineSet::highest_or` with another test.
+    // Kept: a chain of its own beside `LineSet::highest_or`; one function over a closure for both would be no plainer.
     /// The highest line of the set that waits on no line of it, or the one given if there is none.
     pub fn highest_free(&self, among: &LineSet, default: u8) -> u8
         ensures value { result ≡ highest (free (waits self.now) (has among.now)) 64 default }

@@ -74,6 +74,7 @@ impl<'a> Pool<'a> {
         ensures value { result.now ≡ content_of (meant self.now) number }
         ensures short { length result.now ≤ 4096 }
     {
+        // Kept: the proof did not close over `map_or`.
         match self.content(number.max(1)) {
             Some(content) => content.bytes,
             None => &[],

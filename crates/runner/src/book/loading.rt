@@ -4,7 +4,7 @@ ghost use Rattle.model.specs.Promise.{Promised};
 ghost use Rattle.pool.specs.Contents.{meant};
 ghost use Rattle.trace.specs.Format.{decoded};
 ghost use Rattle.trace_write.specs.Laws.{RoundTrip};
-ghost use Rattle.runner.specs.Views.{records, places, world_of};
+ghost use Rattle.runner.specs.Views.{records, world};
 
 use super::Book;
 use crate::log::Log;
@@ -15,7 +15,7 @@ use trace_load::load_file;
 impl<'a> Book<'a> {
     /// Takes a trace file into the pool and the book, unless a run is open.
     pub(crate) fn load(&mut self, bytes: &[u8], pool: &mut Pool, log: &Log) -> Result<(), Refusal>
-        ensures promise { (fs : List ℕ) → Promised (on_load (decoded bytes.now) result) (world_of fs (meant pool.old) log.now.inner (records self.old) (places self.old)) (world_of fs (meant pool.new) log.now.inner (records self.new) (places self.new)) }
+        ensures promise { (fs : List ℕ) → Promised (on_load (decoded bytes.now) result) (world fs (meant pool.old) log.now self.old) (world fs (meant pool.new) log.now self.new) }
         ensures trip { is_ok result ≡ true → (meant pool.old).contents ≡ [] → records self.old ≡ [] → RoundTrip bytes.now (meant pool.new) (records self.new) }
     {
         if log.is_open() {

@@ -1,5 +1,5 @@
 ghost use Rattle.std.specs.Prelude.{◌≡◌, min, not, [], map, length};
-ghost use Rattle.std.specs.List.{position_from};
+ghost use Rattle.std.specs.List.{position};
 ghost use Rattle.std.specs.Option.{option_map};
 ghost use Rattle.model.specs.Book.{record_of, in_script, keep};
 ghost use Rattle.model.specs.Records.{said};
@@ -68,13 +68,9 @@ impl<'a> Book<'a> {
     {
         if let Some(at) = self.place_of(own.command) {
             self.list.replace(at, own);
-            return;
-        }
-        if self.list.len() < self.places() {
+        } else if self.list.len() < self.places() {
             self.list.push(own);
-            return;
-        }
-        if let Some(at) = self.free_place(commands) {
+        } else if let Some(at) = self.free_place(commands) {
             self.list.replace(at, own);
         }
     }
@@ -82,7 +78,7 @@ impl<'a> Book<'a> {
 
 /// The first place whose command is not in a script.
 fn first_free(list: &[Record], commands: &[Command]) -> Option<usize>
-    ensures { result ≡ position_from (λ r. not (in_script r.command commands.now)) 0 list.now }
+    ensures { result ≡ position (λ r. not (in_script r.command commands.now)) list.now }
 {
     list.iter()
         .position(|record| !is_among(commands, record.command))

@@ -1,12 +1,13 @@
-ghost use Rattle.std.specs.Prelude.{◌≡◌, ℕ, ◌<◌, ◌≤◌, true, false, length, slice_index};
+ghost use Rattle.std.specs.Prelude.{◌≡◌, ℕ, ◌<◌, ◌≤◌, true, false, slice_index};
 ghost use Rattle.model.specs.Begin.{begin_refusal, some_above};
 ghost use Rattle.model.specs.Calls.{on_begin};
 ghost use Rattle.model.specs.Promise.{Promised};
 ghost use Rattle.pool.specs.Contents.{meant};
 ghost use Rattle.script.specs.Scripts.{meaning};
+ghost use Rattle.runner.specs.Tickets.{why_blank};
 ghost use Rattle.runner.specs.Views.{world};
 
-// Kept throughout: files, pool, log and book are parameters of their own, each taken as weakly as a call needs it.
+// Kept throughout: files, pool, log and book are parameters of their own, each borrowed by `&` where it is only read.
 
 use super::Log;
 use crate::book::Book;
@@ -72,7 +73,7 @@ impl<'a> Log<'a> {
         pool: &Pool,
         book: &Book,
     ) -> Ticket
-        ensures { Promised (on_begin (meaning script.now).commands result.refusal) (world (F.FileStore.map files.now) (meant pool.now) self.old book.now) (world (F.FileStore.map files.now) (meant pool.now) self.new book.now) }
+        ensures { Promised (on_begin (meaning script.now).commands (why_blank result)) (world (F.FileStore.map files.now) (meant pool.now) self.old book.now) (world (F.FileStore.map files.now) (meant pool.now) self.new book.now) }
     {
         if let Some(refusal) = self.begin_refusal(script, files, pool, book) {
             return Ticket::blank(refusal);

@@ -7,9 +7,10 @@ ghost use Rattle.model.specs.declared.command.Command.{Command as CommandMeant};
 ghost use Rattle.pool.specs.Contents.{meant};
 ghost use Rattle.script.specs.Scripts.{meaning};
 ghost use Rattle.runner.specs.Ends.{Begun, WholeRun, stop_told};
+ghost use Rattle.runner.specs.Tickets.{why_blank};
 ghost use Rattle.runner.specs.Views.{world};
 
-// Kept throughout: files, pool, log and book are parameters of their own, each taken as weakly as a call needs it.
+// Kept throughout: files, pool, log and book are parameters of their own, each borrowed by `&` where it is only read.
 
 use super::Log;
 use crate::book::Book;
@@ -59,7 +60,7 @@ impl<'a> Log<'a> {
         pool: &mut Pool,
         book: &mut Book,
     ) -> Ran
-        requires live { ticket.refusal ≡ None }
+        requires live { why_blank ticket ≡ None }
         requires begun { Begun (world (F.FileStore.map files.old) (meant pool.old) self.old book.old) }
         ensures run { (cs : List CommandMeant) (u : World) → Did (on_begin cs None) u (world (F.FileStore.map files.old) (meant pool.old) self.old book.old) → WholeRun cs (P.Policy.patience policy.old) (P.Policy.passes policy.old) result.stop u (P.Policy.passes policy.new) (world (F.FileStore.map files.new) (meant pool.new) self.new book.new) result.counts.executed result.counts.skipped }
         ensures few { result.counts.executed + result.counts.skipped ≤ 64 }
@@ -100,6 +101,7 @@ impl<'a> Log<'a> {
         };
         let again = self.begin(script, files, pool, book);
         let second = self.run_whole(again, &mut ScriptOrder, files, pool, book);
+        // Kept: `Built` is public, and `Counts` is not.
         let built = Built {
             first: Some(stop),
             executed: first.counts.executed + second.counts.executed,

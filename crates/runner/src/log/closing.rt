@@ -4,9 +4,10 @@ ghost use Rattle.model.specs.Promise.{ClosePromised};
 ghost use Rattle.model.specs.Contents.{Pool as PoolMeant};
 ghost use Rattle.model.specs.Records.{Record as RecordMeant};
 ghost use Rattle.pool.specs.Contents.{meant};
-ghost use Rattle.runner.specs.Views.{records, places, world_of, world};
+ghost use Rattle.runner.specs.Tickets.{why_blank};
+ghost use Rattle.runner.specs.Views.{records, places, world_with, world};
 
-// Kept throughout: files, pool, log and book are parameters of their own, each taken as weakly as a call needs it.
+// Kept throughout: files, pool, log and book are parameters of their own, each borrowed by `&` where it is only read.
 
 use super::Log;
 use crate::book::Book;
@@ -19,7 +20,7 @@ use pool::Pool;
 impl<'a> Log<'a> {
     /// Puts files and pool back to what begin found, and closes the run.
     pub(crate) fn put_back<F: FileStore>(&mut self, files: &mut F, pool: &mut Pool)
-        ensures { (rs : List RecordMeant) (n : ℕ) → world_of (F.FileStore.map files.new) (meant pool.new) self.new.inner rs n ≡ put_back (world_of (F.FileStore.map files.old) (meant pool.old) self.old.inner rs n) }
+        ensures { (rs : List RecordMeant) (n : ℕ) → world_with (F.FileStore.map files.new) (meant pool.new) self.new rs n ≡ put_back (world_with (F.FileStore.map files.old) (meant pool.old) self.old rs n) }
     {
         copy_all(&self.inner.run.files, files);
         pool.cut(self.inner.run.count);
@@ -28,7 +29,7 @@ impl<'a> Log<'a> {
 
     /// Each line in order gives its own record to the book.
     fn give_records(&self, book: &mut Book)
-        ensures records { (fs : List ℕ) (p : PoolMeant) → records book.new ≡ (kept (world_of fs p self.now.inner (records book.old) (places book.old))).records }
+        ensures records { (fs : List ℕ) (p : PoolMeant) → records book.new ≡ (kept (world fs p self.now book.old)).records }
         ensures places { places book.new ≡ places book.old }
     {
         let lines = self.inner.run.lines;
@@ -43,7 +44,7 @@ impl<'a> Log<'a> {
 
     /// Keeps the run: each line in order gives its own record to the book, and the run is closed.
     pub(crate) fn keep(&mut self, book: &mut Book)
-        ensures { (fs : List ℕ) (p : PoolMeant) → world_of fs p self.new.inner (records book.new) (places book.new) ≡ kept (world_of fs p self.old.inner (records book.old) (places book.old)) }
+        ensures { (fs : List ℕ) (p : PoolMeant) → world fs p self.new book.new ≡ kept (world fs p self.old book.old) }
     {
         self.give_records(book);
         self.inner.run.opened = false;
@@ -58,7 +59,7 @@ impl<'a> Log<'a> {
         pool: &mut Pool,
         book: &mut Book,
     ) -> Result<Closed, CloseRefusal>
-        ensures { ClosePromised ticket.refusal wish result (world (F.FileStore.map files.old) (meant pool.old) self.old book.old) (world (F.FileStore.map files.new) (meant pool.new) self.new book.new) }
+        ensures { ClosePromised (why_blank ticket) wish result (world (F.FileStore.map files.old) (meant pool.old) self.old book.old) (world (F.FileStore.map files.new) (meant pool.new) self.new book.new) }
     {
         if let Some(refusal) = ticket.spend() {
             return Err(CloseRefusal::By(refusal));
@@ -70,6 +71,7 @@ impl<'a> Log<'a> {
             self.put_back(files, pool);
             return Err(CloseRefusal::Stopped(stop));
         }
+        // Kept: two patterns; the proof did not close over `==` and `is_some`.
         if let Wish::PutBack = wish {
             self.put_back(files, pool);
             return Ok(Closed::PutBack);

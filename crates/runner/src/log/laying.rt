@@ -7,7 +7,7 @@ ghost use Rattle.pool.specs.Contents.{meant};
 ghost use Rattle.script.specs.Haves.{haves_of};
 ghost use Rattle.script.specs.Scripts.{meaning};
 ghost use Rattle.runner.specs.Stocks.{lay_told, files_laid, pool_laid};
-ghost use Rattle.runner.specs.Views.{world_of};
+ghost use Rattle.runner.specs.Views.{world_with};
 
 use super::Log;
 use files::{FileStore, Table, copy_all};
@@ -44,7 +44,7 @@ impl<'a> Log<'a> {
         files: &mut F,
         pool: &mut Pool,
     ) -> Result<(), Refusal>
-        ensures { (rs : List RecordMeant) (n : ℕ) → Promised (on_lay (haves_of (meaning script.now).haves) result) (world_of (F.FileStore.map files.old) (meant pool.old) self.now.inner rs n) (world_of (F.FileStore.map files.new) (meant pool.new) self.now.inner rs n) }
+        ensures { (rs : List RecordMeant) (n : ℕ) → Promised (on_lay (haves_of (meaning script.now).haves) result) (world_with (F.FileStore.map files.old) (meant pool.old) self.now rs n) (world_with (F.FileStore.map files.new) (meant pool.new) self.now rs n) }
     {
         if self.is_open() {
             return Err(Refusal::RunOpen);

@@ -1,8 +1,7 @@
 ghost use Rattle.std.specs.Prelude.{◌≡◌, ℕ, false, [], length};
-ghost use Rattle.lists.specs.Held.{held, room};
 ghost use Rattle.model.specs.Step.{left};
 ghost use Rattle.policy.specs.Lines.{has};
-ghost use Rattle.runner.specs.Views.{notes};
+ghost use Rattle.runner.specs.Views.{notes_of, entries_of, log_places, is_open};
 
 use super::{Inner, Log};
 use crate::run::Run;
@@ -33,9 +32,9 @@ impl Run {
 impl<'a> Log<'a> {
     /// An empty log over what is lent, with no open run.
     pub fn new(entries: &'a mut [Entry]) -> Log<'a>
-        ensures entries { held result.inner.entries ≡ [] }
-        ensures room { room result.inner.entries ≡ length entries.old }
-        ensures shut { result.inner.run.opened ≡ false }
+        ensures entries { entries_of result ≡ [] }
+        ensures room { log_places result ≡ length entries.old }
+        ensures shut { is_open result ≡ false }
     {
         Log {
             inner: Inner {
@@ -47,7 +46,7 @@ impl<'a> Log<'a> {
 
     /// A run is open.
     pub fn is_open(&self) -> bool
-        ensures { result ≡ self.now.inner.run.opened }
+        ensures { result ≡ is_open self.now }
     {
         self.inner.run.opened
     }
@@ -55,28 +54,28 @@ impl<'a> Log<'a> {
     // Kept: a run may have no stop; as an error it is told by the call that meets it.
     /// The stop of the run, if it met one.
     pub(crate) fn stop(&self) -> Option<Stop>
-        ensures { result ≡ self.now.inner.run.stop }
+        ensures { result ≡ (notes_of self.now).stop }
     {
         self.inner.run.stop
     }
 
     /// The entries of the run, the oldest first.
     pub fn entries(&self) -> &[Entry]
-        ensures { result.now ≡ held self.now.inner.entries }
+        ensures { result.now ≡ entries_of self.now }
     {
         self.inner.entries.as_slice()
     }
 
     /// How many entries it can hold.
     pub(crate) fn places(&self) -> usize
-        ensures { result ≡ room self.now.inner.entries }
+        ensures { result ≡ log_places self.now }
     {
         self.inner.entries.room()
     }
 
     /// The lines that have not ended.
     pub(crate) fn left(&self) -> LineSet
-        ensures { (k : ℕ) → has result k ≡ left (length (notes self.now.inner.run).commands) (held self.now.inner.entries) k }
+        ensures { (k : ℕ) → has result k ≡ left (length (notes_of self.now).commands) (entries_of self.now) k }
     {
         let run = &self.inner.run;
         let mut set = LineSet::below(run.lines);

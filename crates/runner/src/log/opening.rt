@@ -1,11 +1,10 @@
-ghost use Rattle.std.specs.Prelude.{◌≡◌, ℕ, ◌*◌, ◌≤◌, true, List, [], length, replicate, None};
-ghost use Rattle.lists.specs.Held.{room};
+ghost use Rattle.std.specs.Prelude.{◌≡◌, ℕ, ◌*◌, ◌≤◌, true, List, length, replicate, None};
 ghost use Rattle.model.specs.Begin.{begun};
 ghost use Rattle.model.specs.Contents.{Pool as PoolMeant, count as count_of};
 ghost use Rattle.model.specs.Records.{Record as RecordMeant};
 ghost use Rattle.model.specs.declared.run.LineState.TheVariants.{Waiting};
 ghost use Rattle.script.specs.Scripts.{meaning};
-ghost use Rattle.runner.specs.Views.{notes, world_of};
+ghost use Rattle.runner.specs.Views.{notes, log_places, world_with};
 
 use super::Log;
 use crate::run::Run;
@@ -42,9 +41,9 @@ impl Run {
 impl<'a> Log<'a> {
     /// Opens a run: the log is emptied, and what begin found is noted.
     pub(crate) fn open<F: FileStore>(&mut self, script: &Script, files: &F, count: u16)
-        requires { 17 * length (meaning script.now).commands ≤ room self.old.inner.entries }
+        requires { 17 * length (meaning script.now).commands ≤ log_places self.old }
         ensures few { length (meaning script.now).commands ≤ 64 }
-        ensures world { (p : PoolMeant) (rs : List RecordMeant) (n : ℕ) → count ≡ count_of p → world_of (F.FileStore.map files.now) p self.new.inner rs n ≡ begun (meaning script.now).commands (world_of (F.FileStore.map files.now) p self.old.inner rs n) }
+        ensures world { (p : PoolMeant) (rs : List RecordMeant) (n : ℕ) → count ≡ count_of p → world_with (F.FileStore.map files.now) p self.new rs n ≡ begun (meaning script.now).commands (world_with (F.FileStore.map files.now) p self.old rs n) }
     {
         self.inner.entries.clear();
         self.inner.run = Run::begun(script, files, count);

@@ -2,9 +2,10 @@ ghost use Rattle.std.specs.Prelude.{◌≡◌, None, OnErr};
 ghost use Rattle.model.specs.Promise.{StepPromised};
 ghost use Rattle.pool.specs.Contents.{meant};
 ghost use Rattle.runner.specs.Ends.{Begun, Counted, Over};
+ghost use Rattle.runner.specs.Tickets.{why_blank};
 ghost use Rattle.runner.specs.Views.{world};
 
-// Kept throughout: files, pool, log and book are parameters of their own, each taken as weakly as a call needs it.
+// Kept throughout: files, pool, log and book are parameters of their own, each borrowed by `&` where it is only read.
 
 use super::Log;
 use crate::book::Book;
@@ -27,10 +28,11 @@ impl<'a> Log<'a> {
         pool: &mut Pool,
         book: &Book,
     ) -> Result<Stepped, StepRefusal>
-        ensures promise { StepPromised ticket.now.refusal (record { patience = P.Policy.patience policy.old; before = P.Policy.passes policy.old; after = P.Policy.passes policy.new }) result (world (F.FileStore.map files.old) (meant pool.old) self.old book.now) (world (F.FileStore.map files.new) (meant pool.new) self.new book.now) }
+        ensures promise { StepPromised (why_blank ticket.now) (record { patience = P.Policy.patience policy.old; before = P.Policy.passes policy.old; after = P.Policy.passes policy.new }) result (world (F.FileStore.map files.old) (meant pool.old) self.old book.now) (world (F.FileStore.map files.new) (meant pool.new) self.new book.now) }
         ensures same { P.Policy.patience policy.new ≡ P.Policy.patience policy.old }
         ensures unasked { OnErr result (policy.new ≡ policy.old) }
     {
+        // Kept: a blank ticket and a stop are an `Option` each, which `?` would hand on as none.
         if let Some(refusal) = ticket.refusal() {
             return Err(StepRefusal::By(refusal));
         }
@@ -56,7 +58,7 @@ impl<'a> Log<'a> {
         pool: &mut Pool,
         book: &Book,
     ) -> Counts
-        requires live { ticket.now.refusal ≡ None }
+        requires live { why_blank ticket.now ≡ None }
         requires begun { Begun (world (F.FileStore.map files.old) (meant pool.old) self.old book.now) }
         ensures steps { Counted (P.Policy.patience policy.old) (P.Policy.passes policy.old) (world (F.FileStore.map files.old) (meant pool.old) self.old book.now) (P.Policy.passes policy.new) (world (F.FileStore.map files.new) (meant pool.new) self.new book.now) result.executed result.skipped }
         ensures over { Over (world (F.FileStore.map files.new) (meant pool.new) self.new book.now) }

@@ -1,14 +1,13 @@
 ghost use Rattle.std.specs.Prelude.{◌≡◌, ℕ, ◌<◌, true, List, length};
-ghost use Rattle.lists.specs.Held.{held};
 ghost use Rattle.model.specs.Acts.{stop_of};
 ghost use Rattle.model.specs.Step.{left, record_for, skipping, work, noting, after_work};
 ghost use Rattle.std.specs.Option.{option_map};
 ghost use Rattle.model.specs.Records.{said};
 ghost use Rattle.pool.specs.Contents.{meant};
 ghost use Rattle.engine.specs.States.{state};
-ghost use Rattle.runner.specs.Views.{notes, records, places, world_of, world};
+ghost use Rattle.runner.specs.Views.{notes, notes_of, entries_of, is_open, world};
 
-// Kept throughout: files, pool, log and book are parameters of their own, each taken as weakly as a call needs it.
+// Kept throughout: files, pool, log and book are parameters of their own, each borrowed by `&` where it is only read.
 
 use super::{Inner, Log};
 use crate::book::Book;
@@ -19,7 +18,8 @@ use model::{Record, Stepped, Stop};
 use pool::Pool;
 
 impl<'a> Inner<'a> {
-    /// Notes the stop that a line met, if any, and turns the state of that line alone.
+    /// Notes the stop that a line met, if any, and turns the state of that line alone. Between an act and this note the
+    /// states do not follow from the entries, so it stands on `Inner`.
     fn turn(&mut self, line: u8, stop: Option<Stop>, pool: &Pool)
         requires { line < self.old.run.lines }
         ensures entries { self.new.entries ≡ self.old.entries }
@@ -44,8 +44,8 @@ impl<'a> Log<'a> {
         pool: &Pool,
         book: &Book,
     ) -> Option<Record>
-        requires { left (length (notes self.now.inner.run).commands) (held self.now.inner.entries) line ≡ true }
-        ensures { option_map said result ≡ record_for (world_of (F.FileStore.map files.now) (meant pool.now) self.now.inner (records book.now) (places book.now)) line }
+        requires { left (length (notes_of self.now).commands) (entries_of self.now) line ≡ true }
+        ensures { option_map said result ≡ record_for (world (F.FileStore.map files.now) (meant pool.now) self.now book.now) line }
     {
         let at = line as usize;
         if !is_waiting(self.inner.run.states[at]) {
@@ -69,8 +69,8 @@ impl<'a> Log<'a> {
         pool: &mut Pool,
         book: &Book,
     ) -> Stepped
-        requires opened { self.old.inner.run.opened ≡ true }
-        requires left { left (length (notes self.old.inner.run).commands) (held self.old.inner.entries) line ≡ true }
+        requires opened { is_open self.old ≡ true }
+        requires left { left (length (notes_of self.old).commands) (entries_of self.old) line ≡ true }
         ensures line { result.line ≡ line }
         ensures skipped { result.skipped ≡ skipping (record_for (world (F.FileStore.map files.old) (meant pool.old) self.old book.now) line) }
         ensures stop { result.stop ≡ stop_of (work (world (F.FileStore.map files.old) (meant pool.old) self.old book.now) line) }

@@ -45,6 +45,7 @@ impl<'t> Script<'t> {
             .unwrap_or(&[])
     }
 
+    // Kept: this and `have` are public, and edits turn them; `starts` is the form for new code.
     /// How many starting contents there are.
     pub fn haves(&self) -> usize
         ensures value { result ≡ length (meaning self.now).haves }

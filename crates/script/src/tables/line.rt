@@ -25,7 +25,7 @@ impl<'t> Tables<'t> {
     fn have_line(&mut self, args: &[&'t [u8]]) -> Result<(), Refusal>
         ensures { changed result self.new ≡ have_line (held self.old) (map (λ x. x.now) args.now) }
     {
-        // Kept: the same.
+        // Kept: a pattern, as in `file_line`.
         let [label, content] = args else {
             return Err(Refusal::BadTextLine);
         };

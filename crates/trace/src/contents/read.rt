@@ -1,4 +1,4 @@
-ghost use Rattle.std.specs.Prelude.{◌≡◌, ◌≤◌, map, length, IfOk};
+ghost use Rattle.std.specs.Prelude.{◌≡◌, map, length, IfOk};
 ghost use Rattle.trace.specs.Format.{a_content, the_contents};
 ghost use Rattle.trace.specs.Told.{left, told, listed};
 

@@ -7,6 +7,7 @@ use crate::input::Input;
 use model::Refusal;
 
 impl<'t> Input<'t> {
+    /// One byte.
     pub fn byte(&mut self) -> Result<u8, Refusal>
         ensures { plain result self.new ≡ a_byte (left self.old) }
     {
@@ -36,6 +37,7 @@ impl<'t> Input<'t> {
         Ok(n as usize)
     }
 
+    /// The next `n` bytes.
     pub fn piece(&mut self, n: usize) -> Result<&'t [u8], Refusal>
         ensures { told (λ x. x.now) result self.new ≡ a_piece n (left self.old) }
     {

@@ -38,7 +38,7 @@ impl<'t> Input<'t> {
         // Kept: the places that a record has, in a table that is copied.
         let mut list = [Use::default(); 16];
         let mut top = high;
-        // Kept: each read is written to the place of its number; `iter_mut` would be no plainer.
+        // Kept: an index, by which the invariant says how many reads have been taken.
         for i in 0..count {
             let u = self.one_use(contents, top)?;
             list[i] = u;

@@ -12,10 +12,10 @@ use model::{Record, Use};
 
 /// Where a number stands first.
 fn first_at(list: &[u16], number: u16) -> Option<usize>
-    ensures value { result ≡ position_from (λ listed. number == listed) 0 list.now }
+    ensures value { result ≡ position_from (λ listed. listed == number) 0 list.now }
     ensures within { IfSome result (λ at. at < length list.now) }
 {
-    list.iter().position(|listed| number == *listed)
+    list.iter().position(|listed| *listed == number)
 }
 
 impl Order {
@@ -29,33 +29,29 @@ impl Order {
     }
 
     /// The numbers.
-    pub fn numbers(&self) -> &[u16]
+    pub(crate) fn numbers(&self) -> &[u16]
         ensures value { result.now ≡ self.now.numbers.items }
         ensures few { length result.now ≤ 1024 }
     {
         self.numbers.as_slice()
     }
 
-    // Kept: no `Option`: a number that is not there has a place all the same, so that no caller owes a proof that it is.
+    // Kept: no `Option`: a number that is not there has a place all the same, so no caller owes a proof that it is.
     /// The place of a number, counted from 1; one past the last where it is not there.
-    pub fn place(&self, number: u16) -> usize
+    pub(crate) fn place(&self, number: u16) -> usize
         ensures value { result ≡ place_of number self.now.numbers.items }
         ensures within { result ≤ 1025 }
     {
         let numbers = self.numbers();
-        match first_at(numbers, number) {
-            Some(at) => at + 1,
-            None => numbers.len() + 1,
-        }
+        first_at(numbers, number).unwrap_or(numbers.len()) + 1
     }
 
-    // Kept: past the last is where a number stands that is not there, as the definition of the order says it.
     /// Lists a number unless it is there.
     fn note(&mut self, number: u16)
         requires { Number number }
         ensures { self.new.numbers.items ≡ listed self.old.numbers.items number }
     {
-        if self.place(number) > self.numbers.len() {
+        if !self.numbers.contains(&number) {
             self.numbers.push(number);
         }
     }

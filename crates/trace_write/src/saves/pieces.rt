@@ -9,6 +9,8 @@ use crate::order::Order;
 use model::{Command, Use};
 use output::Output;
 
+// Kept throughout: the order is read and the buffer written; one struct of both would be borrowed mutably for each.
+
 // Kept: two bytes here, decimal digits in a report.
 /// Writes two bytes, the most significant first.
 pub fn put_number(out: &mut Output, n: u16)
@@ -28,6 +30,7 @@ pub fn put_content(out: &mut Output, content: &[u8])
     out.put(content);
 }
 
+/// Writes a command, five bytes.
 pub fn put_command(out: &mut Output, c: Command)
     requires { Room 5 out.old }
     ensures { Writes (command_bytes c) out.old out.new }
@@ -44,6 +47,7 @@ pub fn put_use(out: &mut Output, order: &Order, u: Use)
     put_number(out, order.place(u.number) as u16);
 }
 
+/// Writes some uses, one after the other.
 pub fn put_uses(out: &mut Output, order: &Order, list: &[Use])
     requires { Room (length (flat_map (use_of order.now.numbers.items) list.now)) out.old }
     ensures { Writes (flat_map (use_of order.now.numbers.items) list.now) out.old out.new }

@@ -10,6 +10,8 @@ use model::Record;
 use output::Output;
 use pool::Pool;
 
+// Kept throughout: the order is read and the buffer written; one struct of both would be borrowed mutably for each.
+
 /// Writes the contents of some numbers.
 pub fn put_contents(out: &mut Output, pool: &Pool, numbers: &[u16])
     requires { Room (length (flat_map (content_of (meant pool.now)) numbers.now)) out.old }

@@ -6,7 +6,8 @@ ghost use Rattle.trace.specs.Format.{decoded, encoded};
 ghost use Rattle.trace_write.specs.Puts.{saved, after_save};
 ghost use Rattle.trace_write.specs.Saves.{traced, to_save};
 
-// Kept throughout: pool, order and records are borrowed from three owners, and each function reads all three.
+// Kept throughout: a struct of the three references would be made for three private functions, and their clauses would
+// say the same of its fields.
 
 use crate::chosen::choose;
 use crate::order::{Order, order_of};

@@ -6,15 +6,11 @@ use Rattle.pool.specs.Contents.{meant}
 use Rattle.engine.proofs.Turns.{unmet, read_bad, read_goes}
 use Rattle.engine.proofs.acting.read.Goals as goal
 
-pub returns-in-Bad : goal.returns-in-Bad
-returns-in-Bad g c =
+pub returns-in-Bad-clause-outcome : goal.returns-in-Bad-clause-outcome
+returns-in-Bad-clause-outcome g c =
     let p = meant c.args.pool.now in
-    record {
-      outcome =
-          read_bad c.args.command c.args.line c.args.file c.known-number.result (g.F.FileStore.map c.args.files.now) p (held c.args.entries.now) (held c.note.new.entries) c.as_slice.result.now
-          (c.known-number.ensures ∙ ap (known p) c.tell.ensures) (unmet c.args.line _ _ c.in_ok-note.ensures.hazard) c.note.ensures.held c.as_slice.ensures c.if-number-eq0.false c.in-Bad.ensures;
-      room = c.note.ensures.room;
-    }
+    read_bad c.args.command c.args.line c.args.file c.known-number.result (g.F.FileStore.map c.args.files.now) p (held c.args.entries.now) (held c.note.new.entries) c.as_slice.result.now
+    (c.known-number.ensures ∙ ap (known p) c.tell.ensures) (unmet c.args.line _ _ c.in_ok-note.ensures.hazard) c.note.ensures.held c.as_slice.ensures c.if-number-eq0.false c.in-Bad.ensures
 
 pub returns-in_default : goal.returns-in_default
 returns-in_default g c =

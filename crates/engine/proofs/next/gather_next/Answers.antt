@@ -1,9 +1,6 @@
 -- By the list: bad, or the next file, or the end.
-use Rattle.engine.proofs.Lists.{gather_bad, gather_file, gather_end}
+use Rattle.engine.proofs.Lists.{gather_file, gather_end}
 use Rattle.engine.proofs.next.gather_next.Goals as goal
-
-pub returns-then-not-is_list : goal.returns-then-not-is_list
-returns-then-not-is_list c = gather_bad c.args.to c.args.files c.args.list.now c.if-not-is_list.ensures
 
 pub returns-in-Some : goal.returns-in-Some
 returns-in-Some c = gather_file c.args.to c.args.files c.in-Some.file c.args.list.now c.if-not-is_list.ensures c.in-Some.ensures

@@ -1,17 +1,18 @@
 -- By the kind of the command and what its line has read.
-use Rattle.std.proofs.Common.{◌-◌, cond, ap, ◌∙◌, arith}
+use Rattle.std.proofs.Common.{◌-◌, cond, sym, ap, ◌∙◌, arith}
+use Rattle.std.proofs.lemmas.Option.{slice_get_within}
 use Rattle.model.specs.Commands.{reads, is_yes, listed}
 use Rattle.model.specs.declared.command.Kind.TheVariants.{Copy, Join, Choose, Tally, Check}
 use Rattle.pool.specs.Contents.{meant}
 use Rattle.engine.specs.Nexts.{wanted, gather_next}
-use Rattle.engine.proofs.Nexts.{read_none, read_one, read_only, read_two, by_kind, first_read, gather_wanted, some_length, numbers_long}
+use Rattle.engine.proofs.Nexts.{read_none, read_one, read_only, read_two, by_kind, first_read, gather_wanted, numbers_long}
 use Rattle.engine.proofs.next.next_of.Goals as goal
 
 pub returns-in_default : goal.returns-in_default
 returns-in_default c = first_read c.args.command _ (read_none (meant c.args.pool.now) c.args.acts.now.line c.args.acts.now.entries.now c.in_default.ensures)
 
 pub overflow_sub-count : goal.overflow_sub-count
-overflow_sub-count c = omega (arith, some_length _ _ c.in-Some.ensures, c.count.ensures, numbers_long c.args.acts.now.line c.args.acts.now.entries.now)
+overflow_sub-count c = omega (arith, slice_get_within _ 0 _ (sym c.in-Some.ensures), c.count.ensures, numbers_long c.args.acts.now.line c.args.acts.now.entries.now)
 
 pub returns-in-Copy : goal.returns-in-Copy
 returns-in-Copy c =

@@ -3,7 +3,7 @@ use Rattle.std.proofs.Common.{ap, ◌∙◌}
 use Rattle.std.specs.Option.{option_map}
 use Rattle.model.specs.Book.{same_command}
 use Rattle.model.specs.Records.{said}
-use Rattle.model.proofs.Loops.{find_map}
+use Rattle.model.proofs.Lists.{find_map}
 use Rattle.model.proofs.record.record_of.Goals as goal
 
 pub returns : goal.returns

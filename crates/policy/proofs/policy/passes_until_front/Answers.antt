@@ -7,16 +7,10 @@ use Rattle.policy.proofs.policy.passes_until_front.Goals as goal
 pub loop-passed-init : goal.loop-passed-init
 loop-passed-init g c = (passing_none, refl, omega arith)
 
-pub returns-then-ask-front : goal.returns-then-ask-front
-returns-then-ask-front g c =
+pub returns-then-ask-front-clause-asks : goal.returns-then-ask-front-clause-asks
+returns-then-ask-front-clause-asks g c =
     let inv = c.loop-passed.invariant in
-    let a = c.ask.ensures in
-    record {
-      bound = inv.2;
-      asks = passing_ends _ _ _ _ _ c.loop-passed.passed (has c.args.among.now) c.ask.result _ inv.0 inv.1 a.answers c.if-ask-front.true;
-      passes = a.answers.taken c.if-ask-front.true;
-      same = a.same ∙ inv.1;
-    }
+    passing_ends _ _ _ _ _ c.loop-passed.passed (has c.args.among.now) c.ask.result _ inv.0 inv.1 c.ask.ensures.answers c.if-ask-front.true
 
 pub loop-passed-preserved : goal.loop-passed-preserved
 loop-passed-preserved g c =

@@ -5,7 +5,7 @@ use Rattle.std.proofs.lemmas.Iterator.Adapters.{position_from-zero}
 use Rattle.std.proofs.lemmas.Iterator.Search.{position_from_yields_List}
 use Rattle.std.specs.List.{position}
 use Rattle.std.specs.Str.{bytes_eq}
-use Rattle.script.proofs.Labels.{position_map}
+use Rattle.model.proofs.Lists.{position_map}
 use Rattle.script.proofs.label.file_of.Goals as goal
 
 pub returns-in_err-file : goal.returns-in_err-file

@@ -7,11 +7,10 @@ use Rattle.script.proofs.Sounds.{sound_reading}
 use Rattle.script.proofs.Turns.{Left, parts, at_end, refused, next_line, numbered, turn_at, told}
 use Rattle.script.proofs.reading.read.Goals as goal
 use Rattle.script.specs.Sound.{Holds}
-use Rattle.script.specs.Text.{reading}
 use Rattle.script.specs.Views.{held, made}
 
-pub returns-in_err-map_err : goal.returns-in_err-map_err
-returns-in_err-map_err c =
+pub returns-in_err-map_err-clause-value : goal.returns-in_err-map_err-clause-value
+returns-in_err-map_err-clause-value c =
     let text = c.args.text.now in
     let l = c.loop-i in
     let s = c.split.ensures in
@@ -21,11 +20,9 @@ returns-in_err-map_err c =
     l.yielded _ l.yielded_by _ _ (c.in-Some.i, c.in-Some.part) c.in-Some.is c.next.ensures.steps) in
     let t : c.map_err.result ≡ told (c.in-Some.i + 1) c.add_line.result = search rules in
     let r : c.from_residual.result ≡ Err c.in_err-map_err.field-0.0 = search rules in
-    let value : made c.from_residual.result ≡ reading text =
     ap made r
     ∙ refused text (held l.tables) (length l.yielded) l.invariant c.in-Some.part.now turn.0 turn.2 c.add_line.result c.add_line.new.self c.in_err-map_err.field-0.0
-    (ap (λ n. told (n + 1) c.add_line.result) (sym turn.1) ∙ sym t ∙ c.in_err-map_err.was) c.add_line.ensures in
-    record { value = value; sound = subst Holds (sym value) (sound_reading text) }
+    (ap (λ n. told (n + 1) c.add_line.result) (sym turn.1) ∙ sym t ∙ c.in_err-map_err.was) c.add_line.ensures
 
 pub loop-i-preserved : goal.loop-i-preserved
 loop-i-preserved c =

@@ -6,7 +6,7 @@ use Rattle.std.proofs.lemmas.Bool.{leb-true, le-leb, lt-leb}
 use Rattle.model.specs.Records.{said}
 use Rattle.trace.specs.Told.{coming}
 use Rattle.trace.specs.Told as told
-use Rattle.trace_load.proofs.Counts.{test_is, refused_is, taken_is, same_all, held_within}
+use Rattle.trace_load.proofs.Counts.{test_is, refused_is, same_all, held_within}
 use Rattle.trace_load.proofs.hints.take_hints.Goals as goal
 use Rattle.trace_load.specs.Takes.{fresh}
 
@@ -34,16 +34,3 @@ take_all-requires c =
     let enough = leb-true _ _ (sym test ∙ le-leb c.places_for.result c.saturating_sub-free.result c.if-places_for-free.false) in
     let same = ap length (same_all t.contents p t (held b) (room b) c.requires within (map (λ x. x.now) c.contents.result.now) (coming c.records-2.result) c.contents.ensures c.records-2.ensures) in
     omega arith
-
-pub returns : goal.returns
-returns c =
-    let b = c.args.book.now in
-    let t = told.meant c.args.trace.now in
-    let p = meant c.args.pool.now in
-    let within = held_within b.len b.items.now in
-    let need : c.places_for.result ≡ fresh (map said (held b)) t.records = search rules in
-    let free : c.saturating_sub-free.result ≡ room b - length (held b) = search rules in
-    let test = test_is t.contents p t (held b) (room b) c.requires within c.places_for.result c.saturating_sub-free.result need free in
-    let answer = taken_is t.contents p t (held b) (room b) c.requires within (sym test ∙ le-leb c.places_for.result c.saturating_sub-free.result c.if-places_for-free.false) in
-    let same = same_all t.contents p t (held b) (room b) c.requires within (map (λ x. x.now) c.contents.result.now) (coming c.records-2.result) c.contents.ensures c.records-2.ensures in
-    record { value = answer.0; held = c.take_all.ensures.held ∙ same ∙ answer.1; room = c.take_all.ensures.room }

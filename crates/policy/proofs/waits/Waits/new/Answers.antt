@@ -1,9 +1,8 @@
 -- The table tells who waits on whom.
 use Rattle.std.proofs.Common.{◌≡◌, map, false, rules, arith}
 use Rattle.model.specs.Records.{said}
-use Rattle.policy.specs.Waiting.{waits_at}
 use Rattle.policy.proofs.Filling.{filled}
-use Rattle.policy.proofs.Waiting.{table_tells}
+use Rattle.policy.proofs.Waiting.{waits_at, table_tells}
 use Rattle.policy.proofs.waits.Waits.new.Goals as goal
 
 pub returns : goal.returns

@@ -1,10 +1,11 @@
 -- One place more, right behind the others, and its bytes: one content more.
-use Rattle.std.proofs.Common.{◌+◌, ◌-◌, ◌<◌, length, sym, ap, ◌∙◌, subst, arith, rules}
+use Rattle.std.proofs.Common.{◌+◌, ◌-◌, ◌<◌, length, sym, subst, arith, rules}
+use borrow.Rule.Slice.PartMut.{take_put}
 use Rattle.pool.specs.Contents.{meant, held}
 use Rattle.pool.specs.Sound.{Apart}
-use Rattle.pool.proofs.Adds.{short_added, pieces_kept, pieces_added, copied_front, copied_piece, packed_added, filled_added, apart_added}
-use Rattle.pool.proofs.Places.{inside, count_held, all_bytes, all_places}
-use Rattle.pool.proofs.Puts.{fitting, put_fresh, given_fresh}
+use Rattle.pool.proofs.Adds.{short_added, pieces_kept, pieces_added, copied_piece, packed_added, filled_added, apart_added}
+use Rattle.pool.proofs.Places.{inside, all_bytes, all_places}
+use Rattle.pool.proofs.Puts.{fitting, put_fresh}
 use Rattle.pool.proofs.holder.Pool.append.Goals as goal
 
 pub slice_bounds-copy_from_slice-end : goal.slice_bounds-copy_from_slice-end
@@ -14,7 +15,7 @@ pub invariant_of-self : goal.invariant_of-self
 invariant_of-self c =
     let p = c.args.self.now in
     let x = c.args.content.now in
-    let same = pieces_kept p.bytes.now _ p.used p.count p.places.now (all_places p) (inside p) (copied_front p.bytes.now c.copy_from_slice.new.self p.used (p.used + length x - p.used) (all_bytes p)) in
+    let same = pieces_kept p.bytes.now _ p.used p.count p.places.now (all_places p) (inside p) (take_put p.used (p.used + length x - p.used) p.bytes.now c.copy_from_slice.new.self (all_bytes p)) in
     record {
       bytes_fit = search rules;
       places_fit = p.places_fit;
@@ -33,7 +34,7 @@ invariant_of-self-2 c =
     let fit = all_bytes p in
     let more =
     pieces_added p.bytes.now _ x p.used p.count p.places.now place (inside p)
-    (copied_front p.bytes.now c.copy_from_slice.new.self p.used (p.used + length x - p.used) fit)
+    (take_put p.used (p.used + length x - p.used) p.bytes.now c.copy_from_slice.new.self fit)
     (copied_piece p.bytes.now c.copy_from_slice.new.self x p.used fit c.copy_from_slice.ensures.after) in
     record {
       bytes_fit = let h = f.bytes in search rules;
@@ -44,8 +45,8 @@ invariant_of-self-2 c =
       apart = apart_added (held p) _ x c.requires.fresh more p.apart;
     }
 
-pub returns : goal.returns
-returns c =
+pub returns-clause-after : goal.returns-clause-after
+returns-clause-after c =
     let p = c.args.self.now in
     let x = c.args.content.now in
     let f = fitting p x c.requires.fits in
@@ -53,9 +54,6 @@ returns c =
     let fit = all_bytes p in
     let more =
     pieces_added p.bytes.now _ x p.used p.count p.places.now place (inside p)
-    (copied_front p.bytes.now c.copy_from_slice.new.self p.used (p.used + length x - p.used) fit)
+    (take_put p.used (p.used + length x - p.used) p.bytes.now c.copy_from_slice.new.self fit)
     (copied_piece p.bytes.now c.copy_from_slice.new.self x p.used fit c.copy_from_slice.ensures.after) in
-    record {
-      after = put_fresh (meant p) _ x c.requires.fresh c.requires.fits more (search rules) (search rules);
-      number = ap (λ n. n + 1) (count_held p) ∙ given_fresh (meant p) x c.requires.fresh c.requires.fits;
-    }
+    put_fresh (meant p) _ x c.requires.fresh c.requires.fits more (search rules) (search rules)

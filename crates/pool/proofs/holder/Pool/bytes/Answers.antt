@@ -5,8 +5,8 @@ use Rattle.pool.specs.Contents.{meant}
 use Rattle.pool.proofs.Sounds.{short_held}
 use Rattle.pool.proofs.holder.Pool.bytes.Goals as goal
 
-pub returns-in-Some : goal.returns-in-Some
-returns-in-Some c =
+pub returns-in-Some-clause-short : goal.returns-in-Some-clause-short
+returns-in-Some-clause-short c =
     let p = c.args.self.now in
     let value : c.in-Some.content.bytes.now ≡ content (meant p) c.args.number = search rules in
-    record { value = value; short = omega (arith, ap length value, short_held p (c.args.number - 1)) }
+    omega (arith, ap length value, short_held p (c.args.number - 1))

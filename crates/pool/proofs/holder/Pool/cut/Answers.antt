@@ -1,8 +1,8 @@
 -- The first places, and the bytes before the first place that is left out: the first contents.
 use Rattle.std.proofs.Common.{◌<◌, arith}
 use Rattle.pool.specs.Contents.{meant, held}
-use Rattle.pool.proofs.Cuts.{cut_is, cut_none, apart_front}
-use Rattle.pool.proofs.Places.{count_held, take_pieces, inside}
+use Rattle.pool.proofs.Cuts.{cut_is, apart_front}
+use Rattle.pool.proofs.Places.{take_pieces, inside}
 use Rattle.pool.proofs.holder.Pool.cut.Goals as goal
 
 pub invariant_of-self : goal.invariant_of-self
@@ -23,8 +23,3 @@ pub returns-then-count-self : goal.returns-then-count-self
 returns-then-count-self c =
     let p = c.args.self.now in
     cut_is (meant p) _ c.args.count (take_pieces p.bytes.now c.args.count p.count p.places.now (omega (arith, c.if-count-self.true)))
-
-pub returns-else-count-self : goal.returns-else-count-self
-returns-else-count-self c =
-    let p = c.args.self.now in
-    cut_none (meant p) c.args.count (omega (arith, count_held p, c.if-count-self.false))

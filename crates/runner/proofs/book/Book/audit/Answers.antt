@@ -1,6 +1,7 @@
 -- Refused while a run is open or where no record is; else one standing is changed.
-use Rattle.std.proofs.Common.{◌≡◌, map, set, Some, None, Err, sym, refl, ap, ◌∙◌, rules}
+use Rattle.std.proofs.Common.{◌≡◌, map, Some, None, Err, sym, refl, ap, ◌∙◌, rules}
 use Rattle.std.specs.List.{slice_get}
+use Rattle.lists.specs.Altered.{altered}
 use Rattle.lists.specs.Held.{held, room}
 use Rattle.model.specs.Records.{said}
 use Rattle.model.specs.declared.refusal.Refusal.TheVariants.{NoSuchRecord}
@@ -24,12 +25,7 @@ returns c = λ fs.
     let b = c.args.self.now in
     let p = meant c.args.pool.now in
     let i = c.args.log.now.inner in
-    let x = c.in_ok-candidate.candidate in
     let s = c.finding-standing.result in
-    let found : Some x ≡ slice_get (held b.list) c.args.at = search rules in
-    let changed = rw (sym found) at c.change.ensures.held in
-    let made : changed.1.left.now ≡ stands_as s changed.1.shown.now = search (rules, changed.1.met) in
-    let is : changed.0 ≡ stands_as s x = sym changed.1.leaves ∙ made ∙ ap (stands_as s) changed.1.shows in
-    let held_now : held c.change.new.self ≡ set (held b.list) c.args.at (stands_as s x) = changed.2 ∙ ap (set (held b.list) c.args.at) is in
-    judges c.args.at _ _ c.if-is_open.ensures (held b.list) refl x s found c.finding-standing.ensures
-    (ap (λ xs. world_of fs p i (map said xs) (room c.change.new.self)) held_now ∙ ap (world_of fs p i (map said (set (held b.list) c.args.at (stands_as s x)))) c.change.ensures.room)
+    let found : Some c.in_ok-candidate.candidate ≡ slice_get (held b.list) c.args.at = search rules in
+    judges c.args.at _ _ c.if-is_open.ensures (held b.list) refl c.in_ok-candidate.candidate s found c.finding-standing.ensures
+    (ap (λ xs. world_of fs p i (map said xs) (room c.change.new.self)) c.change.ensures.held ∙ ap (world_of fs p i (map said (altered (stands_as s) (held b.list) c.args.at))) c.change.ensures.room)

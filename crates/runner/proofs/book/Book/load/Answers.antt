@@ -1,5 +1,5 @@
 -- Refused while a run is open; else the file is taken, all or nothing.
-use Rattle.std.proofs.Common.{◌≡◌, ℕ, ◌<◌, [], refl, arith}
+use Rattle.std.proofs.Common.{◌<◌, [], refl, arith}
 use Rattle.std.proofs.ByRecursion.{All-from_get_or}
 use Rattle.pool.specs.Contents.{meant}
 use Rattle.trace.specs.Laws.{Bytes}
@@ -8,8 +8,8 @@ use Rattle.runner.specs.Views.{records, places, world_of}
 use Rattle.runner.proofs.Loading.{open_now, taken}
 use Rattle.runner.proofs.book.Book.load.Goals as goal
 
-pub returns-then-is_open : goal.returns-then-is_open
-returns-then-is_open c = record { promise = λ fs. open_now _ _ _ c.if-is_open.ensures refl; trip = λ ok. let z : ◌≡◌ {A = ℕ} 0 1 = cc in absurd (omega arith) }
+pub returns-then-is_open-clause-promise : goal.returns-then-is_open-clause-promise
+returns-then-is_open-clause-promise c = λ fs. open_now _ _ _ c.if-is_open.ensures refl
 
 pub returns : goal.returns
 returns c =

@@ -1,15 +1,15 @@
 -- A begin that is refused, one run, or two.
-use Rattle.std.proofs.Common.{sym, refl}
+use Rattle.std.proofs.Common.{sym}
 use Rattle.runner.proofs.Wholes.{refused_build, built_once, live_again, begun_again, built_twice}
 use Rattle.runner.proofs.log.Log.build.Goals as goal
 
-pub returns-in-Some : goal.returns-in-Some
-returns-in-Some g c = record { promise = refused_build _ _ _ _ _ _ c.in-Some.refusal (sym c.in-Some.ensures) c.begin-ticket.ensures.did; same = refl }
+pub returns-in-Some-clause-promise : goal.returns-in-Some-clause-promise
+returns-in-Some-clause-promise g c = refused_build _ _ _ _ _ _ c.in-Some.refusal (sym c.in-Some.ensures) c.begin-ticket.ensures.did
 
-pub returns-in_default-stop : goal.returns-in_default-stop
-returns-in_default-stop g c =
+pub returns-in_default-stop-clause-promise : goal.returns-in_default-stop-clause-promise
+returns-in_default-stop-clause-promise g c =
     let run = c.run_whole-first.ensures.run _ _ (rw (sym c.in_default.ensures) at c.begin-ticket.ensures.did) in
-    record { promise = built_once _ _ _ _ _ _ _ _ _ c.in_default-stop.is run; same = c.run_whole-first.ensures.same }
+    built_once _ _ _ _ _ _ _ _ _ c.in_default-stop.is run
 
 pub run_whole-second-requires : goal.run_whole-second-requires
 run_whole-second-requires g c =
@@ -20,10 +20,7 @@ run_whole-second-requires g c =
       begun = begun_again _ _ _ _ _ _ _ _ c.in-Some-stop.stop _ c.in-Some-stop.is run _ _ did;
     }
 
-pub returns : goal.returns
-returns g c =
+pub returns-clause-promise : goal.returns-clause-promise
+returns-clause-promise g c =
     let run = c.run_whole-first.ensures.run _ _ (rw (sym c.in_default.ensures) at c.begin-ticket.ensures.did) in
-    record {
-      promise = built_twice _ _ _ _ _ _ _ _ c.in-Some-stop.stop _ c.in-Some-stop.is run _ _ _ _ _ _ _ c.begin-again.ensures.did c.run_whole-second.ensures.run c.answer.result c.answer.ensures;
-      same = c.run_whole-first.ensures.same;
-    }
+    built_twice _ _ _ _ _ _ _ _ c.in-Some-stop.stop _ c.in-Some-stop.is run _ _ _ _ _ _ _ c.begin-again.ensures.did c.run_whole-second.ensures.run c.answer.result c.answer.ensures

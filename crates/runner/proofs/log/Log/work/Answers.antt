@@ -48,12 +48,10 @@ invariant_of-self-2 g c =
     (record { entries = ap held t.entries; rooms = ap room t.entries ∙ c.skip.ensures.room; lines = t.lines; opened = t.opened ∙ c.requires.opened; noted = t.notes s.files }) in
     record { roomy = left.kept.roomy; inside = left.kept.inside; few = left.kept.few; follows = left.kept.follows }
 
-pub returns : goal.returns
-returns g c =
+pub returns-clause-world : goal.returns-clause-world
+returns-clause-world g c =
     let s = state (g.F.FileStore.map c.skip.new.files) c.args.pool.now c.skip.new.entries in
     let t = c.turn-2.ensures in
-    let left =
-    after_skip c.args.self.now.inner c.args.line c.requires.left _ _ (records c.args.book.now) (places c.args.book.now) (said c.in-Some.record) c.in-Some.ensures (said_few c.in-Some.record) _ s
+    (after_skip c.args.self.now.inner c.args.line c.requires.left _ _ (records c.args.book.now) (places c.args.book.now) (said c.in-Some.record) c.in-Some.ensures (said_few c.in-Some.record) _ s
     (as_stopping _ _ s c.err-stop-2.ensures.value (c.skip.ensures.outcome (meant c.args.pool.now))) (always c.args.self.now) c.turn-2.new.self
-    (record { entries = ap held t.entries; rooms = ap room t.entries ∙ c.skip.ensures.room; lines = t.lines; opened = t.opened ∙ c.requires.opened; noted = t.notes s.files }) in
-    record { line = refl; skipped = ap skipping c.in-Some.ensures; stop = left.stop; world = left.world }
+    (record { entries = ap held t.entries; rooms = ap room t.entries ∙ c.skip.ensures.room; lines = t.lines; opened = t.opened ∙ c.requires.opened; noted = t.notes s.files })).world

@@ -6,11 +6,8 @@ use Rattle.script.specs.Haves.{haves_of}
 use Rattle.script.specs.Scripts.{meaning}
 use Rattle.script.specs.Views.{start_of}
 use Rattle.runner.specs.Stocks.{lay_told, files_laid, pool_laid}
-use Rattle.runner.proofs.Laying.{at_start, length_starts, left_none, left_more, left_refused, pool_back, left_all}
+use Rattle.runner.proofs.Laying.{at_start, length_starts, left_more, left_refused, pool_back}
 use Rattle.runner.proofs.log.laying.put_starts.Goals as goal
-
-pub loop-have-init : goal.loop-have-init
-loop-have-init g c = left_none _ _ _
 
 pub returns-in_default : goal.returns-in_default
 returns-in_default g c =
@@ -41,13 +38,3 @@ loop-have-preserved g c =
     let at = at_start start_of starts.result.now ss k _ starts.ensures.value c.loop-have-test.true in
     let put = c.in-Ok.ensures in
     left_more hs _ _ _ _ k c.loop-have.invariant _ at lt _ _ c.in-Ok.put.number put.number (λ z. omega (arith, ltb-true 0 _ (sym put.taken), put.number)) c.set.ensures put.after
-
-pub returns : goal.returns
-returns g c =
-    let ss = (meaning c.args.script.now).haves in
-    let hs = haves_of ss in
-    let starts = c.starts-have-items in
-    let fs = g.F.FileStore.map c.args.files.now in
-    let p = meant c.args.pool.now in
-    let all = left_all hs fs _ p _ c.loop-have.have-index c.loop-have.invariant (omega (arith, c.loop-have-test.false, length_starts start_of starts.result.now ss starts.ensures.value)) in
-    record { value = ap lay_told all; files = ap (λ o. files_laid o fs) all; pool = ap (λ o. pool_laid o p) all }

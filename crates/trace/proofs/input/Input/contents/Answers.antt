@@ -1,28 +1,21 @@
 -- The loop over the contents gives the section.
-use Rattle.std.proofs.Common.{[], take, refl, ◌∙◌, arith}
-use Rattle.std.proofs.lemmas.List.{length-set, length-map, length-take-le}
-use Rattle.std.proofs.lemmas.Result.{IfOk-from_err}
+use Rattle.std.proofs.Common.{[], ◌∙◌, arith}
+use Rattle.std.proofs.lemmas.List.{length-set}
 use Rattle.trace.proofs.Breaks.{break_told}
-use Rattle.trace.proofs.Pieces.{rest_none, rest_more, rest_stop, rest_all, section_begins}
+use Rattle.trace.proofs.Pieces.{rest_more, rest_stop, section_begins}
 use Rattle.trace.proofs.input.Input.contents.Goals as goal
 use Rattle.trace.specs.Reads.{many}
 use Rattle.trace.specs.Told.{left, listed}
 use Rattle.trace.specs.Format.{a_content, push}
 
-pub loop-i-init : goal.loop-i-init
-loop-i-init c = (rest_none c.in_ok-count.count [] (left c.count.new.self), refl)
-
-pub returns-in_err-list : goal.returns-in_err-list
-returns-in_err-list c =
+pub returns-in_err-list-clause-value : goal.returns-in_err-list-clause-value
+returns-in_err-list-clause-value c =
     let l = c.loop-i in
     let n = c.in_ok-count.count in
     let s = c.count.new.self in
     let stop = rest_stop (many a_content push n [] (left s)) n l.list l.i (left l.self) l.invariant.0 c.loop-i-test.true c.in_err-list.field-0.0 c.in_err-list.ensures in
     let begins = section_begins n (left c.args.self.now) (left s) c.in_ok-count.ensures.value in
-    record {
-      count = IfOk-from_err _ _ c.from_residual-in_err-list.ensures.0;
-      value = break_told listed _ _ c.in_err-list.field-0.0 _ c.from_residual-in_err-list.ensures.1 (stop ∙ begins);
-    }
+    break_told listed _ _ c.in_err-list.field-0.0 _ c.from_residual-in_err-list.ensures.1 (stop ∙ begins)
 
 pub loop-i-preserved : goal.loop-i-preserved
 loop-i-preserved c =
@@ -34,15 +27,3 @@ loop-i-preserved c =
           c.in_ok-list.field-0 (left c.content.new.self) (omega arith) c.in_ok-list.ensures,
       length-set l.list l.i c.in_ok-list.field-0 ∙ long,
     )
-
-pub returns : goal.returns
-returns c =
-    let l = c.loop-i in
-    let n = c.in_ok-count.count in
-    let s = c.count.new.self in
-    record {
-      count = let few = c.in_ok-count.ensures.within in let long = l.invariant.1 in length-map (take n l.list) (λ x. x.now) ∙ length-take-le n l.list (omega arith);
-      value =
-          rest_all (many a_content push n [] (left s)) n l.list l.i (left l.self) l.invariant.0 c.loop-i-test.false l.auto.i-end
-          ∙ section_begins n (left c.args.self.now) (left s) c.in_ok-count.ensures.value;
-    }

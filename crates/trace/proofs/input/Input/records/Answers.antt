@@ -1,17 +1,10 @@
 -- The loop over the records gives the highest index in them.
-use Rattle.std.proofs.Common.{◌+◌, ap, sym, subst, ◌∙◌, arith}
+use Rattle.std.proofs.Common.{◌+◌, ap, sym, subst, ◌∙◌}
 use Rattle.trace.proofs.Breaks.{break_told}
-use Rattle.trace.proofs.Entries.{Rest, rest_none, rest_more, rest_stop, rest_all}
+use Rattle.trace.proofs.Entries.{Rest, rest_more, rest_stop}
 use Rattle.trace.proofs.input.Input.records.Goals as goal
 use Rattle.trace.specs.Format.{all_records, a_record}
 use Rattle.trace.specs.Told.{left, gathered, high_of, shown, met}
-
-pub loop-init : goal.loop-init
-loop-init c =
-    let m = c.args.contents in
-    let n = c.args.count in
-    let bs = left c.args.self.now in
-    subst (λ es. Rest (gathered high_of (all_records m n bs)) m n es 0 0 bs) (sym c.new-commands.ensures) (rest_none m n bs)
 
 pub returns-in_err-next : goal.returns-in_err-next
 returns-in_err-next c =
@@ -23,9 +16,6 @@ returns-in_err-next c =
     let same = ap (λ es. a_record m (met es l.high) (left l.self)) c.as_slice.ensures.value in
     break_told (λ x. x) _ _ e _ c.from_residual.ensures.1
     (rest_stop answer m n l.commands.items l.high l.counter (left l.self) l.invariant c.loop-test.true e (c.in_err-next.ensures.value ∙ same))
-
-pub push-requires : goal.push-requires
-push-requires c = omega (arith, c.requires, c.loop.invariant.long, c.loop-test.true)
 
 pub loop-preserved : goal.loop-preserved
 loop-preserved c =
@@ -39,11 +29,3 @@ loop-preserved c =
     let more = rest_more answer m n l.commands.items l.high l.counter (left l.self) l.invariant c.loop-test.true
     (shown next) (left c.record.new.self) next.high c.in_ok-next.ensures.high (c.in_ok-next.ensures.value ∙ same) in
     subst (λ es. Rest answer m n es next.high (l.counter + 1) (left c.record.new.self)) (sym c.push.ensures.items) more
-
-pub returns : goal.returns
-returns c =
-    let l = c.loop in
-    let m = c.args.contents in
-    let n = c.args.count in
-    let answer = gathered high_of (all_records m n (left c.args.self.now)) in
-    rest_all answer m n l.commands.items l.high l.counter (left l.self) l.invariant c.loop-test.false

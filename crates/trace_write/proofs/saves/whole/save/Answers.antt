@@ -9,8 +9,8 @@ use Rattle.trace_write.specs.Puts.{saved, after_save}
 use Rattle.trace_write.specs.Saves.{to_save, order}
 use Rattle.trace_write.proofs.saves.whole.save.Goals as goal
 
-pub returns : goal.returns
-returns c =
+pub returns-clause-accepted : goal.returns-clause-accepted
+returns-clause-accepted c =
     let p = meant c.args.pool.now in
     let good = sound c.args.pool.now in
     let rs = map said c.args.records.now in
@@ -19,8 +19,4 @@ returns c =
     let same = tables_are p good rs c.choose-kept.result.items c.choose-kept.ensures.value c.order_of-order.result.numbers.items listed in
     let answer = c.put_trace.ensures.value ∙ ap (λ t. saved t bs) same in
     let after = c.put_trace.ensures.bytes ∙ ap (λ t. after_save t bs) same in
-    record {
-      value = answer;
-      bytes = after;
-      accepted = accepted (to_save p rs) bs (saved_back p good rs) c.put_trace.result c.put_trace.new.out answer after;
-    }
+    accepted (to_save p rs) bs (saved_back p good rs) c.put_trace.result c.put_trace.new.out answer after
