@@ -6,7 +6,7 @@ use Rattle.model.specs.Contents.{Pool, count}
 use Rattle.model.specs.Lay.{Stock, laid, Laid}
 use Rattle.model.specs.Past.{new, call}
 use Rattle.model.specs.Promise.{BuildPromised}
-use Rattle.model.specs.World.{World, Fresh, stocked, UnlessOpen}
+use Rattle.model.specs.World.{World, stocked, UnlessOpen}
 use Rattle.model.specs.declared.answers.BuildRefusal.{BuildRefusal}
 use Rattle.model.specs.declared.answers.BuildRefusal.TheVariants.{By}
 use Rattle.model.specs.declared.answers.Built.{Built}
@@ -17,16 +17,15 @@ use Rattle.script.specs.Haves.{haves_of}
 use Rattle.script.specs.Text.{Meaning, reading}
 use Rattle.script.specs.declared.answer.Refused.{Refused}
 use Rattle.releasing.specs.Printed.{empty_pool, refusal_line, stock_report, script_report, printed}
+use Rattle.releasing.specs.Starts.{AtStart}
 use Rattle.releasing.specs.Words.{refused_words, text_line}
 use Rattle.releasing.proofs.Begins.{laid_filed, begin_accepted}
 use Rattle.releasing.proofs.Reports.{reported}
 
--- THE WORLD THAT THE PROGRAM BEGINS WITH
-pub record AtStart (w : World) : Type 0 where
-  pub fresh : Fresh w
-  pub pool : w.pool ≡ empty_pool
-  pub log_places : w.log_places ≡ 1088
-  pub book_places : w.book_places ≡ 256
+-- a laying that is refused is told as a build that is
+abbrev pub as_build : Result (Unit {0}) Refusal → Result (Unit {0}) BuildRefusal
+as_build (Ok x) = Ok x
+as_build (Err r) = Err (By r)
 
 -- absent files have no lines
 absent_report : (r : Refusal) (labels : List (List ℕ)) (p : Pool) (fs : List ℕ) → fs ≡ replicate 64 0 → report_bytes (Err (By r)) labels p fs ≡ refusal_line r
@@ -49,7 +48,7 @@ module _ (text : List ℕ) where
     lays a d = subst (λ b. UnlessOpen b a w u (Laid (laid (haves_of m.haves) w.files w.pool) a w u)) start.fresh.is_open d.does
 
     -- a script that has no room
-    pub lay_printed : (r : Refusal) → Did (on_lay (haves_of m.haves) (Err r)) w u → report_bytes (Err (By r)) m.labels u.pool u.files ≡ printed text
+    lay_printed : (r : Refusal) → Did (on_lay (haves_of m.haves) (Err r)) w u → report_bytes (Err (By r)) m.labels u.pool u.files ≡ printed text
     lay_printed r d = by (laid (haves_of m.haves) w.files w.pool) refl (lays (Err r) d)
       where
         by : (o : Option Stock) → laid (haves_of m.haves) w.files w.pool ≡ o → Laid o (Err r) w u → report_bytes (Err (By r)) m.labels u.pool u.files ≡ printed text
@@ -57,6 +56,12 @@ module _ (text : List ℕ) where
             let why : r ≡ NoRoomToLay = cc in
             absent_report r m.labels u.pool u.files (ap (λ x. x.files) f.1 ∙ start.fresh.files) ∙ ap refusal_line why ∙ stock_printed None e
         by (Some s) e f = let z : ◌≡◌ {A = ℕ} 0 1 = cc in absurd (omega arith)
+
+    pub laying_printed : (a : Result (Unit {0}) Refusal) (x : BuildRefusal) → as_build a ≡ Err x → Did (on_lay (haves_of m.haves) a) w u → report_bytes (Err x) m.labels u.pool u.files ≡ printed text
+    laying_printed (Ok y) x e d = let z : ◌≡◌ {A = ℕ} 0 1 = cc in absurd (omega arith)
+    laying_printed (Err r) x e d =
+        let why : x ≡ By r = cc in
+        ap (λ b. report_bytes (Err b) m.labels u.pool u.files) why ∙ lay_printed r d
 
     -- a script that is built
     pub build_printed : {v : World} {k : ℕ} (a : Result Built BuildRefusal) → length m.commands ≤ 64 → Did (on_lay (haves_of m.haves) (Ok tt)) w u → BuildPromised m.commands 0 0 a k u v → length v.files ≡ length u.files → report_bytes a m.labels v.pool v.files ≡ printed text

@@ -1,6 +1,7 @@
-//! Releasing a script from nothing: the policy of a book without records, and in specs/ what is printed.
+//! Releasing a script from nothing: what is printed, as a function of the text in specs/, and the function that gives it.
 #![tactic(auto)]
 
+mod releasing;
 mod unrecorded;
 
-pub use unrecorded::Unrecorded;
+pub use releasing::release;

@@ -51,7 +51,10 @@ impl<'a> Log<'a> {
         if !is_waiting(self.inner.run.states[at]) {
             return None;
         }
-        let record = book.find(self.inner.run.commands[at])?;
+        // Kept: `let .. else`, the form of a lookup here, as in `work`; a question mark says no more.
+        let Some(record) = book.find(self.inner.run.commands[at]) else {
+            return None;
+        };
         if !is_own(record.standing) {
             return None;
         }
