@@ -1,0 +1,2 @@
+pub mod Odd
+pub mod LastBuild

@@ -1,0 +1,4 @@
+-- In reading order.
+pub mod Runs
+pub mod Comes
+pub mod Table
