@@ -7,8 +7,8 @@ use runner::{Book, Log};
 use script::Script;
 use std::io;
 
-/// A build from nothing: the first run's stop if it stopped, the report, the counts if the build stopped, and the content
-/// of one file.
+/// A build from nothing: the first run's stop if it stopped, the report, the counts if the build stopped, and the
+/// content of one file.
 #[derive(Clone, Copy)]
 pub struct Build {
     pub name: &'static str,

@@ -23,8 +23,8 @@ impl Tally {
         }
     }
 
-    /// Counts a case by what it came to over a table and over an image, and prints its line; where it differs, also what
-    /// it came to.
+    /// Counts a case by what it came to over a table and over an image, and prints its line; where it differs, also
+    /// what it came to.
     pub fn add(
         &mut self,
         rt: &HostRuntime,

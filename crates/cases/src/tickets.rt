@@ -87,8 +87,8 @@ fn close_and_tell<F: FileStore>(
     tell_close(text, closed)
 }
 
-/// Tells whether a ticket is live, makes a step with it, closes it with the wish to keep, and tells whether anything has
-/// changed.
+/// Tells whether a ticket is live, makes a step with it, closes it with the wish to keep, and tells whether anything
+/// has changed.
 fn use_ticket<F: FileStore>(
     text: &mut Text,
     ticket: Ticket,

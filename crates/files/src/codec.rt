@@ -74,8 +74,6 @@ pub fn is_laid(image: [u8; 193]) -> bool
 }
 
 /// The law of the layout stands.
-pub fn round_trip_stands() -> u8
+pub fn round_trip_stands()
     ensures { RoundTrip }
-{
-    0
-}
+{}

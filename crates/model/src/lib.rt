@@ -26,64 +26,50 @@ pub use run::{Entry, Fault, Hazard, HazardKind, LineState, Stop};
 
 /// What is kept is what script order leaves, after any calls; what is not kept is put back; and script order of two
 /// scripts in a row is that of the one and then of the other.
-pub fn order_stands() -> u8
+pub fn order_stands()
     ensures keeps { KeptAsScriptOrder }
     ensures puts_back { PutBackAsFound }
     ensures appends { ScriptOrderAppends }
-{
-    0
-}
+{}
 
 /// A build is kept exactly where script order does not stop, and else stops as it does.
-pub fn build_stands() -> u8
+pub fn build_stands()
     ensures order { BuildAsScriptOrder }
     ensures puts_back { StoppedBuildPutsBack }
     ensures again { BeginsAgain }
     ensures anywhere { BeginsAnywhere }
-{
-    0
-}
+{}
 
 /// The lines that a run counts are those that it executed and skipped; a kept build in script order, from a book
 /// without records, executes each line once.
-pub fn counts_stand() -> u8
+pub fn counts_stand()
     ensures run { LinesCounted }
     ensures kept { EachLineCounted }
     ensures front { FrontBuildCounted }
-{
-    0
-}
+{}
 
 /// No line waits for long once it is the front.
-pub fn fronts_stand() -> u8
+pub fn fronts_stand()
     ensures any { NoLineStarves }
     ensures build { NoLineStarvesInBuilds }
-{
-    0
-}
+{}
 
 /// Own records are true, the book has at most one record of a command, and a kept run leaves the record of each line.
-pub fn records_stand() -> u8
+pub fn records_stand()
     ensures own { OwnRecordsTrue }
     ensures unique { OneRecordACommand }
     ensures lines { KeptLinesRecorded }
-{
-    0
-}
+{}
 
 /// The table of line states follows from the entries.
-pub fn states_stand() -> u8
+pub fn states_stand()
     ensures { StatesFollow }
-{
-    0
-}
+{}
 
 /// Pool and log have the room that they need.
-pub fn room_stands() -> u8
+pub fn room_stands()
     ensures pool { PoolInRoom }
     ensures left { RoomIsLeft }
     ensures kept { RoomIsKept }
     ensures log { LogHasRoom }
-{
-    0
-}
+{}

@@ -2,8 +2,8 @@ ghost use Rattle.std.specs.Prelude.{◌≡◌, [], ◌∷◌, length};
 ghost use Rattle.output.specs.Writes.{buffer, written, Into, Room, Writes};
 
 // Kept: a writer of its own beside the list over lent memory: past the count of a list all is free, and past the end of
-// what is written the bytes stay as they were, which reports and trace files promise. Each function that writes says the
-// room that it needs, since no type bounds what is left of a buffer.
+// what is written the bytes stay as they were, which reports and trace files promise. Each function that writes says
+// the room that it needs, since no type bounds what is left of a buffer.
 /// A caller's buffer, and how many of its bytes are written.
 #[derive(Drop)]
 pub struct Output<'a> {

@@ -11,8 +11,8 @@ use crate::waits::Waits;
 pub trait Choice {
     ghost line: { Self → (ℕ → Bool) → ℕ → ℕ → ℕ → ℕ };
 
-    /// The line to choose from a set with this front. Taken where the patience allows it, it gives the answer that `line`
-    /// says.
+    /// The line to choose from a set with this front. Taken where the patience allows it, it gives the answer that
+    /// `line` says.
     fn choose(&self, among: &LineSet, front: u8) -> u8
         ensures { (patience passes : ℕ) → answer (has among.now) front patience passes result ≡ line self.now (has among.now) front patience passes };
 }

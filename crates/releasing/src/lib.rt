@@ -1,4 +1,5 @@
-//! Releasing a script from nothing: what is printed, as a function of the text in specs/, and the function that gives it.
+//! Releasing a script from nothing: what is printed, as a function of the text in specs/, and the function that gives
+//! it.
 #![tactic(auto)]
 
 mod releasing;

@@ -10,8 +10,8 @@ use model::Refusal;
 use pool::Pool;
 
 /// Writes the book to the start of a buffer as a trace file and returns its length: the records that are not struck and
-/// whose numbers are all in the pool, in order. A buffer that is too short stays as it was; so do the bytes past the end
-/// of the file. What is written is accepted, and means what was saved.
+/// whose numbers are all in the pool, in order. A buffer that is too short stays as it was; so do the bytes past the
+/// end of the file. What is written is accepted, and means what was saved.
 pub fn save(out: &mut [u8], pool: &Pool, book: &Book) -> Result<usize, Refusal>
     ensures value { result ≡ saved (to_save (meant pool.now) (records book.now)) out.old }
     ensures bytes { out.new ≡ after_save (to_save (meant pool.now) (records book.now)) out.old }

@@ -1,22 +1,16 @@
 ghost use Rattle.trace.specs.Laws.{WrittenBack, OnlyLawful, ReadBack};
 
 /// An accepted file is what its trace is written as.
-pub fn written_back() -> u8
+pub fn written_back()
     ensures { WrittenBack }
-{
-    0
-}
+{}
 
 /// An accepted file holds a lawful trace.
-pub fn only_lawful() -> u8
+pub fn only_lawful()
     ensures { OnlyLawful }
-{
-    0
-}
+{}
 
 /// Each lawful trace is read back.
-pub fn read_back() -> u8
+pub fn read_back()
     ensures { ReadBack }
-{
-    0
-}
+{}

@@ -8,8 +8,8 @@ ghost use Rattle.trace.specs.Format.{lawful};
 ghost use Rattle.trace.specs.Told.{meant as traced, coming};
 ghost use Rattle.trace_load.specs.Takes.{fresh, hints_told, hints_after};
 
-// Kept throughout: contents and pool stay two parameters; a struct of the two references would be made for three private
-// functions, and their clauses would say the same of its fields.
+// Kept throughout: contents and pool stay two parameters; a struct of the two references would be made for three
+// private functions, and their clauses would say the same of its fields.
 
 use lists::Lent;
 use model::{Record, Refusal, Standing, Use, place_of};
@@ -35,7 +35,8 @@ fn renumbered_reads(contents: &[&[u8]], pool: &Pool, reads: &[Use]) -> [Use; 16]
     ensures { take (length reads.now) result ≡ map (numbered (map (λ x. x.now) contents.now) (meant pool.now)) reads.now }
 {
     let mut list = [Use::default(); 16];
-    // Kept: the place is written by its number; after a `zip` with `iter_mut` a proof knows nothing of what was written.
+    // Kept: the place is written by its number; after a `zip` with `iter_mut` a proof knows nothing of what was
+    // written.
     for (i, u) in reads.iter().enumerate() {
         list[i] = renumbered(contents, pool, *u);
     }

@@ -7,8 +7,8 @@ ghost use Rattle.lists.specs.Held.{held, room};
 use super::Lent;
 use crate::change::Change;
 
-// Kept throughout: a bool tells whether there was room or a place, as a set's `insert` does; `engine` makes an error of it
-// where a text does not fit.
+// Kept throughout: a bool tells whether there was room or a place, as a set's `insert` does; `engine` makes an error of
+// it where a text does not fit.
 
 impl<'a, T: Copy> Lent<'a, T> {
     /// An empty list with as much room as is lent.

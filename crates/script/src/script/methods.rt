@@ -21,7 +21,8 @@ impl<'t> Script<'t> {
         }
     }
 
-    // Kept: it fills the script that a caller has, so that there is one whatever is read; a refused text leaves it empty.
+    // Kept: it fills the script that a caller has, so that there is one whatever is read; a refused text leaves it
+    // empty.
     /// Reads a text in place of what the script said; a refused text leaves an empty script.
     pub fn read(&mut self, text: &'t [u8]) -> Result<(), Refused>
         ensures value { answered result self.new ≡ reading text.now }
