@@ -39,9 +39,9 @@ fn build_text<'t>(
     build(script, &mut policy, files, pool, log, book)
 }
 
-/// Releases the script of a text: writes to the start of a buffer what the text prints, and answers its length.
 // Kept: slices of these lengths, and no arrays: of an array that is lent to the pool the check asks that the pool has
 // the same borrow at the end, and no call says so.
+/// Releases the script of a text: writes to the start of a buffer what the text prints, and answers its length.
 fn release_in(
     text: &[u8],
     bytes: &mut [u8],

@@ -1,6 +1,7 @@
 mod Brings
 mod Indices
 pub mod Lawfuls
+mod Listed
 mod Lists
 mod Orders
 mod Outputs

@@ -36,7 +36,7 @@ place_told n ms =
         ]
 
 -- a number is there where its place is no more than the last
-place_there : (n : ℕ) (ms : List ℕ) → list_any (λ m. eqb m n) ms ≡ true → place n ms ≤ length ms
+pub place_there : (n : ℕ) (ms : List ℕ) → list_any (λ m. eqb m n) ms ≡ true → place n ms ≤ length ms
 place_there n [] e = let z : ◌≡◌ {A = ℕ} 0 1 = cc in absurd (omega arith)
 place_there n (m ∷ ms) e =
     elim (cases_eq n m) [
@@ -47,7 +47,7 @@ place_there n (m ∷ ms) e =
           let b = place_there n ms rest in omega arith)
     ]
 
-place_past : (n : ℕ) (ms : List ℕ) → list_any (λ m. eqb m n) ms ≡ false → length ms < place n ms
+pub place_past : (n : ℕ) (ms : List ℕ) → list_any (λ m. eqb m n) ms ≡ false → length ms < place n ms
 place_past n [] e = omega arith
 place_past n (m ∷ ms) e =
     let t = or_parts (eqb m n) (list_any (λ k. eqb k n) ms) e in

@@ -40,6 +40,10 @@ numbers_in r = map (λ u. u.number) r.reads ++ r.write.number ∷ []
 abbrev pub place : ℕ → List ℕ → ℕ
 place n ns = position_or_len (λ m. m == n) ns + 1
 
+-- the place of a number that is there, and 0 of one that is not
+abbrev pub place_listed : ℕ → List ℕ → ℕ
+place_listed n ns = cond (list_any (λ m. m == n) ns) (place n ns) 0
+
 -- the numbers, and after them one more unless it is there
 abbrev pub listed : List ℕ → ℕ → List ℕ
 listed ns n = cond (list_any (λ m. m == n) ns) ns (ns ++ n ∷ [])

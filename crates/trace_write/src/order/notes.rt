@@ -1,22 +1,14 @@
-ghost use Rattle.std.specs.Prelude.{◌≡◌, ◌<◌, ◌≤◌, ◌==◌, [], map, length, IfSome};
-ghost use Rattle.std.specs.List.{AllByRecursion, position_from};
+ghost use Rattle.std.specs.Prelude.{◌≡◌, ◌≤◌, [], map, length};
+ghost use Rattle.std.specs.List.{AllByRecursion};
 ghost use Rattle.model.specs.Records.{said};
 ghost use Rattle.trace.specs.Reads.{after};
 ghost use Rattle.trace_write.specs.Puts.{number_of_use};
-ghost use Rattle.trace_write.specs.Saves.{place as place_of, listed, numbers_in, order as order_in};
+ghost use Rattle.trace_write.specs.Saves.{place as place_of, place_listed, listed, numbers_in, order as order_in};
 ghost use Rattle.trace_write.specs.Rooms.{Number, Named};
 
 use crate::order::Order;
 use arrayvec::ArrayVec;
 use model::{Record, Use};
-
-/// Where a number stands first.
-fn first_at(list: &[u16], number: u16) -> Option<usize>
-    ensures value { result ≡ position_from (λ listed. listed == number) 0 list.now }
-    ensures within { IfSome result (λ at. at < length list.now) }
-{
-    list.iter().position(|listed| *listed == number)
-}
 
 impl Order {
     /// No number is listed.
@@ -25,6 +17,7 @@ impl Order {
     {
         Order {
             numbers: ArrayVec::new(),
+            places: [0; 1025],
         }
     }
 
@@ -36,14 +29,27 @@ impl Order {
         self.numbers.as_slice()
     }
 
+    /// The place of a number that is listed, counted from 1; 0 of one that is not.
+    fn listed(&self, number: u16) -> u16
+        ensures value { result ≡ place_listed number self.now.numbers.items }
+    {
+        if number > 1024 {
+            return 0;
+        }
+        self.places[number as usize]
+    }
+
     // Kept: no `Option`: a number that is not there has a place all the same, so no caller owes a proof that it is.
     /// The place of a number, counted from 1; one past the last where it is not there.
     pub(crate) fn place(&self, number: u16) -> usize
         ensures value { result ≡ place_of number self.now.numbers.items }
         ensures within { result ≤ 1025 }
     {
-        let numbers = self.numbers();
-        first_at(numbers, number).unwrap_or(numbers.len()) + 1
+        let past = self.numbers().len() + 1;
+        match self.listed(number) {
+            0 => past,
+            place => place as usize,
+        }
     }
 
     /// Lists a number unless it is there.
@@ -51,8 +57,9 @@ impl Order {
         requires { Number number }
         ensures { self.new.numbers.items ≡ listed self.old.numbers.items number }
     {
-        if !self.numbers.contains(&number) {
+        if self.listed(number) == 0 {
             self.numbers.push(number);
+            self.places[number as usize] = self.numbers.len() as u16;
         }
     }
 

@@ -1,13 +1,14 @@
--- The search tells the place.
-use Rattle.std.proofs.Common.{◌+◌, length, unwrap_or, ap, ◌∙◌}
-use Rattle.trace_write.proofs.Lists.{place_told}
-use Rattle.trace_write.specs.Saves.{place}
+-- The table tells the place of a number that is listed; one that is not has the place past the last.
+use Rattle.std.proofs.Common.{◌+◌, length, sym, ap, ◌∙◌, arith}
+use Rattle.trace_write.proofs.Listed.{place_new, low_listed}
 use Rattle.trace_write.proofs.order.Order.place.Goals as goal
 
-pub returns-clause-value : goal.returns-clause-value
-returns-clause-value c =
-    let ns = c.numbers-numbers.result.now in
-    let n = c.args.number in
-    ap (λ k. k + 1) (c.unwrap_or.ensures ∙ ap (λ o. unwrap_or o (length ns)) c.first_at.ensures.value)
-    ∙ place_told n ns
-    ∙ ap (place n) c.numbers-numbers.ensures.value
+pub returns-in-0-clause-value : goal.returns-in-0-clause-value
+returns-in-0-clause-value c =
+    let ns = c.args.self.now.numbers.items in
+    ap (λ xs. length xs + 1) c.numbers.ensures.value ∙ place_new c.args.number ns (sym c.listed.ensures.value ∙ c.in-0.is)
+
+pub returns-in_default-clause-within : goal.returns-in_default-clause-within
+returns-in_default-clause-within c =
+    let ns = c.args.self.now.numbers.items in
+    omega (arith, c.listed.ensures.value, low_listed c.args.number ns, ap length c.numbers.ensures.value, c.numbers.ensures.few)
