@@ -21,12 +21,30 @@ struct Kind {
 }
 
 const KINDS: [Kind; 6] = [
-    Kind { word: "copy", files: 2 },
-    Kind { word: "join", files: 3 },
-    Kind { word: "gather", files: 2 },
-    Kind { word: "choose", files: 4 },
-    Kind { word: "tally", files: 2 },
-    Kind { word: "check", files: 3 },
+    Kind {
+        word: "copy",
+        files: 2,
+    },
+    Kind {
+        word: "join",
+        files: 3,
+    },
+    Kind {
+        word: "gather",
+        files: 2,
+    },
+    Kind {
+        word: "choose",
+        files: 4,
+    },
+    Kind {
+        word: "tally",
+        files: 2,
+    },
+    Kind {
+        word: "check",
+        files: 3,
+    },
 ];
 
 fn label(at: usize) -> String {
@@ -37,15 +55,27 @@ impl Board {
     /// A board of a few files and lines, now and then of many. Most lines read files that are there by then and write
     /// one that no earlier line has touched, so that script order often ends; some do not.
     pub fn random(random: &mut Random) -> Board {
-        let count = if random.once_in(12) { random.between(1, 64) } else { random.between(2, 14) };
-        let mut board = Board { files: distinct(random, count), haves: vec![], lines: vec![] };
+        let count = if random.once_in(12) {
+            random.between(1, 64)
+        } else {
+            random.between(2, 14)
+        };
+        let mut board = Board {
+            files: distinct(random, count),
+            haves: vec![],
+            lines: vec![],
+        };
         for file in 0..count {
             if random.once_in(2) {
                 let content = board.content(random);
                 board.haves.push((file, content));
             }
         }
-        let lines = if random.once_in(12) { random.between(0, 64) } else { random.between(0, 9) };
+        let lines = if random.once_in(12) {
+            random.between(0, 64)
+        } else {
+            random.between(0, 9)
+        };
         for _ in 0..lines {
             board.add_line(random);
         }
@@ -70,7 +100,11 @@ impl Board {
     fn list(&self, random: &mut Random) -> Vec<u8> {
         let mut list = vec![];
         for _ in 0..random.between(1, 4) {
-            let file = if random.once_in(30) { 64 } else { *random.one_of(&self.files) };
+            let file = if random.once_in(30) {
+                64
+            } else {
+                *random.one_of(&self.files)
+            };
             list.extend(format!("{file:02}").bytes());
         }
         if random.once_in(30) {
@@ -106,12 +140,20 @@ impl Board {
     /// The files that have a content by now, if all goes well.
     fn present(&self) -> Vec<usize> {
         let written = self.lines.iter().map(|(kind, files)| files[kind.files - 1]);
-        self.haves.iter().map(|(file, _)| *file).chain(written).collect()
+        self.haves
+            .iter()
+            .map(|(file, _)| *file)
+            .chain(written)
+            .collect()
     }
 
     /// The files that no line names so far.
     fn untouched(&self) -> Vec<usize> {
-        let named = |file: &usize| self.lines.iter().any(|(kind, files)| files[..kind.files].contains(file));
+        let named = |file: &usize| {
+            self.lines
+                .iter()
+                .any(|(kind, files)| files[..kind.files].contains(file))
+        };
         (0..self.files.len()).filter(|file| !named(file)).collect()
     }
 
@@ -158,7 +200,11 @@ impl Board {
             }
             text.push(b'\n');
             if random.once_in(20) {
-                text.extend(random.one_of::<&[u8]>(&[b"# a note\n", b"\n", b"   \n"]).iter());
+                text.extend(
+                    random
+                        .one_of::<&[u8]>(&[b"# a note\n", b"\n", b"   \n"])
+                        .iter(),
+                );
             }
         }
         if random.once_in(3) {
@@ -180,7 +226,9 @@ fn distinct(random: &mut Random, count: usize) -> Vec<usize> {
 }
 
 fn word(random: &mut Random, most: usize) -> Vec<u8> {
-    (0..random.between(1, most)).map(|_| random.between(33, 126) as u8).collect()
+    (0..random.between(1, most))
+        .map(|_| random.between(33, 126) as u8)
+        .collect()
 }
 
 /// Many equal bytes, but for the last.
@@ -200,7 +248,11 @@ pub fn damage_text(text: &mut Vec<u8>, random: &mut Random) {
 /// Damages a trace file, most often in one byte of small value.
 pub fn damage_trace(file: &mut Vec<u8>, random: &mut Random) {
     damage(file, random, |random| {
-        if random.once_in(4) { random.below(256) as u8 } else { random.below(8) as u8 }
+        if random.once_in(4) {
+            random.below(256) as u8
+        } else {
+            random.below(8) as u8
+        }
     });
 }
 
@@ -230,11 +282,28 @@ pub fn setting(random: &mut Random) -> Setting {
     let tight = random.once_in(4);
     Setting {
         times: random.below(3),
-        bytes: if tight { random.between(0, 400) } else { 65_536 },
+        bytes: if tight {
+            random.between(0, 400)
+        } else {
+            65_536
+        },
         places: if tight { random.between(0, 20) } else { 1_024 },
-        log: if random.once_in(20) { random.between(0, 300) } else { 1_088 },
-        book: if random.once_in(20) { random.between(60, 70) } else { 256 },
-        policy: *random.one_of(&[Policy::ScriptOrder, Policy::LastRun, Policy::HighestFirst, Policy::Wishes]),
+        log: if random.once_in(20) {
+            random.between(0, 300)
+        } else {
+            1_088
+        },
+        book: if random.once_in(20) {
+            random.between(60, 70)
+        } else {
+            256
+        },
+        policy: *random.one_of(&[
+            Policy::ScriptOrder,
+            Policy::LastRun,
+            Policy::HighestFirst,
+            Policy::Wishes,
+        ]),
         patience: random.below(40) as u8,
         image: random.once_in(2),
     }
@@ -243,7 +312,9 @@ pub fn setting(random: &mut Random) -> Setting {
 /// Wishes for lines, a few of them for lines that there are not.
 pub fn wishes(random: &mut Random) -> Vec<u8> {
     let most = if random.once_in(3) { 70 } else { 10 };
-    (0..random.between(0, 20)).map(|_| random.below(most) as u8).collect()
+    (0..random.between(0, 20))
+        .map(|_| random.below(most) as u8)
+        .collect()
 }
 
 /// A list of contents, each after its length in two bytes; some stand there twice, and the last may be cut off.
@@ -251,7 +322,11 @@ pub fn list(random: &mut Random) -> Vec<u8> {
     let mut list = vec![];
     let most = *random.one_of(&[0, 1, 3, 40]);
     for _ in 0..random.between(0, 60) {
-        let length = if random.once_in(40) { random.between(4_090, 4_100) } else { random.between(0, most) };
+        let length = if random.once_in(40) {
+            random.between(4_090, 4_100)
+        } else {
+            random.between(0, most)
+        };
         list.extend((length as u16).to_be_bytes());
         list.extend((0..length).map(|_| random.between(97, 99) as u8));
     }

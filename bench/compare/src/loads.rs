@@ -39,7 +39,11 @@ pub fn long_script(share: Share) -> Vec<u8> {
     let length = share.of(16_384);
     assert!(text.len() <= length);
     while text.len() < length {
-        text += if length - text.len() >= 40 { "# ......................................\n" } else { "\n" };
+        text += if length - text.len() >= 40 {
+            "# ......................................\n"
+        } else {
+            "\n"
+        };
     }
     text.into_bytes()
 }
@@ -89,8 +93,17 @@ pub fn largest_trace(share: Share) -> Vec<u8> {
     let mut contents: Vec<Vec<u8>> = vec![list.into_bytes()];
     let mut records: Vec<Vec<u8>> = vec![];
     for record in 0..count {
-        let parts: Vec<Vec<u8>> = (0..3).map(|part| format!("{record:04}{part}").repeat(9)[..42].into()).collect();
-        let mut bytes = vec![3, 16 + (record / 48) as u8, 16 + (record % 48) as u8, 0, 0, 16];
+        let parts: Vec<Vec<u8>> = (0..3)
+            .map(|part| format!("{record:04}{part}").repeat(9)[..42].into())
+            .collect();
+        let mut bytes = vec![
+            3,
+            16 + (record / 48) as u8,
+            16 + (record % 48) as u8,
+            0,
+            0,
+            16,
+        ];
         let read = |bytes: &mut Vec<u8>, file: u8, index: usize| {
             bytes.push(file);
             bytes.extend((index as u16).to_be_bytes());

@@ -71,7 +71,10 @@ pub struct Ours {
 
 impl Ours {
     pub fn new() -> Ours {
-        Ours { bytes: vec![0; 65_536], out: vec![0; ROOM] }
+        Ours {
+            bytes: vec![0; 65_536],
+            out: vec![0; ROOM],
+        }
     }
 }
 
@@ -87,8 +90,14 @@ impl Runner for Ours {
         // The pointers are those of a slice with its length, and of a struct of the same layout.
         let number = unsafe { boundary_script(text.as_ptr(), text.len(), &mut figures) };
         match number {
-            0 => Read::Lines { lines: figures.lines, haves: figures.haves },
-            _ => Read::Refused { number, line: figures.refused_at },
+            0 => Read::Lines {
+                lines: figures.lines,
+                haves: figures.haves,
+            },
+            _ => Read::Refused {
+                number,
+                line: figures.refused_at,
+            },
         }
     }
 
@@ -96,7 +105,8 @@ impl Runner for Ours {
         let room = 2_048;
         let report = &mut self.out[..room];
         // The pointers are those of slices with their lengths.
-        let length = unsafe { boundary_release(text.as_ptr(), text.len(), report.as_mut_ptr(), room) };
+        let length =
+            unsafe { boundary_release(text.as_ptr(), text.len(), report.as_mut_ptr(), room) };
         &self.out[..length]
     }
 

@@ -2,8 +2,9 @@
 
 use crate::runner::{Policy, Read, Runner, Setting};
 use twin::{
-    Book, BuildAnswer, BuildRefusal, Counts, FileStore, HighestFirst, Image, LastRun, ListPolicy, Log, Pool,
-    REPORT_BYTES, Script, ScriptOrder, TRACE_CAP, Table, audit, build, lay, load, report, save,
+    Book, BuildAnswer, BuildRefusal, Counts, FileStore, HighestFirst, Image, LastRun, ListPolicy,
+    Log, Pool, REPORT_BYTES, Script, ScriptOrder, TRACE_CAP, Table, audit, build, lay, load,
+    report, save,
 };
 
 /// What the last calls came to; the twin's own parts are made anew for each.
@@ -38,16 +39,26 @@ impl<S: FileStore> Parts<S> {
 
     /// Builds a script with a policy made anew.
     fn build(&mut self, script: &Script, setting: &Setting, wishes: &[u8]) -> BuildAnswer {
-        let Parts { files, pool, log, book } = self;
+        let Parts {
+            files,
+            pool,
+            log,
+            book,
+        } = self;
         match setting.policy {
             Policy::ScriptOrder => build(script, &mut ScriptOrder, files, pool, log, book),
             Policy::LastRun => {
                 let mut policy = LastRun::primed(setting.patience, book, script);
                 build(script, &mut policy, files, pool, log, book)
             }
-            Policy::HighestFirst => {
-                build(script, &mut HighestFirst::new(setting.patience), files, pool, log, book)
-            }
+            Policy::HighestFirst => build(
+                script,
+                &mut HighestFirst::new(setting.patience),
+                files,
+                pool,
+                log,
+                book,
+            ),
             Policy::Wishes => match ListPolicy::wishing(setting.patience, wishes.to_vec()) {
                 Some(mut policy) => build(script, &mut policy, files, pool, log, book),
                 None => build(script, &mut ScriptOrder, files, pool, log, book),
@@ -69,7 +80,14 @@ impl<S: FileStore> Parts<S> {
     }
 
     /// Releases the first text, then the second as often as the setting says, and accounts for the last of them.
-    fn account(mut self, first: &[u8], second: &[u8], setting: &Setting, wishes: &[u8], out: &mut Vec<u8>) {
+    fn account(
+        mut self,
+        first: &[u8],
+        second: &[u8],
+        setting: &Setting,
+        wishes: &[u8],
+        out: &mut Vec<u8>,
+    ) {
         let (mut script, mut answer) = self.release(first, setting, wishes);
         for _ in 0..setting.times {
             (script, answer) = self.release(second, setting, wishes);
@@ -96,19 +114,31 @@ impl<S: FileStore> Parts<S> {
 /// The number that a build was refused with, that of its first stop, and the counts.
 fn told(answer: &BuildAnswer) -> (u8, u8, Counts) {
     match answer {
-        Ok(built) => (0, built.first_stop.map_or(0, |stop| stop.number()), built.counts),
+        Ok(built) => (
+            0,
+            built.first_stop.map_or(0, |stop| stop.number()),
+            built.counts,
+        ),
         Err(BuildRefusal::Begin(refusal)) => (refusal.number(), 0, Counts::default()),
-        Err(BuildRefusal::Stopped { stop, first_stop, counts }) => {
-            (stop.number(), first_stop.number(), *counts)
-        }
+        Err(BuildRefusal::Stopped {
+            stop,
+            first_stop,
+            counts,
+        }) => (stop.number(), first_stop.number(), *counts),
     }
 }
 
 impl Runner for Theirs {
     fn script(&mut self, text: &[u8]) -> Read {
         match Script::read(text) {
-            Ok(script) => Read::Lines { lines: script.commands().len(), haves: script.haves().len() },
-            Err(refused) => Read::Refused { number: refused.number(), line: refused.text_line },
+            Ok(script) => Read::Lines {
+                lines: script.commands().len(),
+                haves: script.haves().len(),
+            },
+            Err(refused) => Read::Refused {
+                number: refused.number(),
+                line: refused.text_line,
+            },
         }
     }
 
@@ -127,8 +157,11 @@ impl Runner for Theirs {
         let mut rest = list;
         while let [high, low, others @ ..] = rest {
             let length = usize::from(u16::from_be_bytes([*high, *low]));
-            let Some((content, others)) = others.split_at_checked(length) else { break };
-            self.out.extend(pool.put(content).unwrap_or(0).to_be_bytes());
+            let Some((content, others)) = others.split_at_checked(length) else {
+                break;
+            };
+            self.out
+                .extend(pool.put(content).unwrap_or(0).to_be_bytes());
             rest = others;
         }
         &self.out
@@ -152,9 +185,21 @@ impl Runner for Theirs {
     fn builds(&mut self, first: &[u8], second: &[u8], setting: &Setting, wishes: &[u8]) -> &[u8] {
         self.out.clear();
         if setting.image {
-            Parts::new(Image::new(), setting).account(first, second, setting, wishes, &mut self.out);
+            Parts::new(Image::new(), setting).account(
+                first,
+                second,
+                setting,
+                wishes,
+                &mut self.out,
+            );
         } else {
-            Parts::new(Table::new(), setting).account(first, second, setting, wishes, &mut self.out);
+            Parts::new(Table::new(), setting).account(
+                first,
+                second,
+                setting,
+                wishes,
+                &mut self.out,
+            );
         }
         &self.out
     }

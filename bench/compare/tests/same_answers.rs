@@ -56,8 +56,16 @@ fn scripts() {
             Read::Refused { number, .. } => format!("refused {number}"),
         };
         let printed = ours.release(&text);
-        assert_eq!(printed, theirs.release(&text), "seed {seed}: {}", shown(&text));
-        let first = printed.split(|&byte| matches!(byte, b' ' | b'\n')).next().unwrap_or_default();
+        assert_eq!(
+            printed,
+            theirs.release(&text),
+            "seed {seed}: {}",
+            shown(&text)
+        );
+        let first = printed
+            .split(|&byte| matches!(byte, b' ' | b'\n'))
+            .next()
+            .unwrap_or_default();
         outcomes.count(format!("{told}, released: {}", shown(first)));
     }
     outcomes.print("scripts read and released");
@@ -70,7 +78,11 @@ fn told(account: &[u8]) -> String {
         number @ 31..=35 => format!("stopped {number}"),
         number => format!("refused {number}"),
     };
-    let skipped = if account[4..6] == [0, 0] { "" } else { ", lines skipped" };
+    let skipped = if account[4..6] == [0, 0] {
+        ""
+    } else {
+        ", lines skipped"
+    };
     match account[1] {
         0 => format!("{end}{skipped}"),
         first => format!("{end} after a first stop {first}{skipped}"),
@@ -118,14 +130,21 @@ fn trace_files() {
     for seed in 0..6_000 {
         let mut random = Random::new(seed);
         let text = Board::random(&mut random).text(&mut random);
-        let made = Setting { policy: compare::Policy::ScriptOrder, ..Setting::RELEASE };
+        let made = Setting {
+            policy: compare::Policy::ScriptOrder,
+            ..Setting::RELEASE
+        };
         let mut file = trace_of(ours.builds(&text, &[], &made, &[])).to_vec();
         if random.once_in(2) {
             damage_trace(&mut file, &mut random);
         }
         let room = setting(&mut random);
         let saved = ours.trace(&file, &room);
-        assert_eq!(saved, theirs.trace(&file, &room), "seed {seed}: {room:?}, {file:?}");
+        assert_eq!(
+            saved,
+            theirs.trace(&file, &room),
+            "seed {seed}: {room:?}, {file:?}"
+        );
         outcomes.count(match saved {
             Err(number) => format!("refused {number}"),
             Ok(saved) if saved == file => "its own bytes".to_string(),
@@ -144,7 +163,11 @@ fn contents() {
         let list = list(&mut random);
         let room = setting(&mut random);
         let numbers = ours.put(&list, room.bytes, room.places);
-        assert_eq!(numbers, theirs.put(&list, room.bytes, room.places), "seed {seed}: {room:?}, {list:?}");
+        assert_eq!(
+            numbers,
+            theirs.put(&list, room.bytes, room.places),
+            "seed {seed}: {room:?}, {list:?}"
+        );
         outcomes.count(match numbers.chunks(2).any(|number| number == [0, 0]) {
             true => "some refused".to_string(),
             false => "all put".to_string(),

@@ -33,7 +33,8 @@ fn script() -> String {
 }
 
 fn ninja_file() -> String {
-    let mut text = "rule copy\n command = cp $in $out\nrule join\n command = cat $in > $out\n".to_string();
+    let mut text =
+        "rule copy\n command = cp $in $out\nrule join\n command = cat $in > $out\n".to_string();
     for (to, joins) in steps() {
         let from = to - 1;
         match joins {
@@ -65,7 +66,9 @@ fn remove_outputs(folder: &Path) {
 /// How many processes were started since the machine was.
 fn processes() -> usize {
     let stat = fs::read_to_string("/proc/stat").unwrap_or_default();
-    let line = stat.lines().find_map(|line| line.strip_prefix("processes "));
+    let line = stat
+        .lines()
+        .find_map(|line| line.strip_prefix("processes "));
     line.and_then(|number| number.parse().ok()).unwrap_or(0)
 }
 
@@ -84,7 +87,11 @@ fn run(tool: &str, folder: &Path, from_nothing: bool) -> (f64, usize) {
         }
         let before = processes();
         let start = Instant::now();
-        let status = Command::new(tool).current_dir(folder).stdout(Stdio::null()).status().expect("the tool is installed");
+        let status = Command::new(tool)
+            .current_dir(folder)
+            .stdout(Stdio::null())
+            .status()
+            .expect("the tool is installed");
         assert!(status.success());
         (start.elapsed().as_secs_f64() * 1e3, processes() - before)
     };
@@ -97,12 +104,18 @@ fn main() -> std::io::Result<()> {
     fs::write(folder.join("f0"), "plane".repeat(10))?;
     fs::write(folder.join("build.ninja"), ninja_file())?;
     fs::write(folder.join("Makefile"), make_file())?;
-    println!("{:<32}{:>14}{:>12}", "63 copies and joins", "milliseconds", "processes");
+    println!(
+        "{:<32}{:>14}{:>12}",
+        "63 copies and joins", "milliseconds", "processes"
+    );
     let text = script();
     let mut ours = Ours::new();
     let release = |_| {
         let start = Instant::now();
-        assert!(ours.release(text.as_bytes()).starts_with(b"kept executed 63"));
+        assert!(
+            ours.release(text.as_bytes())
+                .starts_with(b"kept executed 63")
+        );
         (start.elapsed().as_secs_f64() * 1e3, 0)
     };
     let (time, _) = median((0..TIMES).map(release).collect());

@@ -24,12 +24,36 @@ struct Row {
 
 fn rows() -> Vec<Row> {
     vec![
-        Row { name: "read a script of 16,384 bytes", work: read_script, goes: 1 },
-        Row { name: "first build of 63 lines", work: first_build, goes: 1 },
-        Row { name: "rerun, all 63 lines skipped", work: rerun, goes: RERUNS },
-        Row { name: "wrong guess, two runs of 63 lines", work: wrong_guess, goes: 1 },
-        Row { name: "load, audit, save the largest trace file", work: trace, goes: 1 },
-        Row { name: "put 1,024 contents of 64 bytes", work: put, goes: 1 },
+        Row {
+            name: "read a script of 16,384 bytes",
+            work: read_script,
+            goes: 1,
+        },
+        Row {
+            name: "first build of 63 lines",
+            work: first_build,
+            goes: 1,
+        },
+        Row {
+            name: "rerun, all 63 lines skipped",
+            work: rerun,
+            goes: RERUNS,
+        },
+        Row {
+            name: "wrong guess, two runs of 63 lines",
+            work: wrong_guess,
+            goes: 1,
+        },
+        Row {
+            name: "load, audit, save the largest trace file",
+            work: trace,
+            goes: 1,
+        },
+        Row {
+            name: "put 1,024 contents of 64 bytes",
+            work: put,
+            goes: 1,
+        },
     ]
 }
 
@@ -49,7 +73,10 @@ fn first_build(share: Share) -> Work {
 
 fn rerun(share: Share) -> Work {
     let text = chain(share);
-    let setting = Setting { times: RERUNS, ..Setting::RELEASE };
+    let setting = Setting {
+        times: RERUNS,
+        ..Setting::RELEASE
+    };
     Box::new(move |runner| {
         let account = black_box(runner.builds(black_box(&text), &text, &setting, &[]));
         assert_eq!(account[..6], [0, 0, 0, 0, 0, share.of(64) as u8 - 1]);
@@ -58,7 +85,11 @@ fn rerun(share: Share) -> Work {
 
 fn wrong_guess(share: Share) -> Work {
     let (first, second) = (chain(share), longer_list(share));
-    let setting = Setting { times: 1, policy: Policy::LastRun, ..Setting::RELEASE };
+    let setting = Setting {
+        times: 1,
+        policy: Policy::LastRun,
+        ..Setting::RELEASE
+    };
     Box::new(move |runner| {
         let account = black_box(runner.builds(black_box(&first), &second, &setting, &[]));
         assert_eq!(account[..2], [0, 33]);
@@ -105,7 +136,10 @@ fn measure(work: &Work, goes: usize) -> [f64; 2] {
 }
 
 fn main() {
-    println!("{:<44}{:>9}{:>12}{:>12}{:>8}", "microseconds, medians", "size", "ours", "twin", "ratio");
+    println!(
+        "{:<44}{:>9}{:>12}{:>12}{:>8}",
+        "microseconds, medians", "size", "ours", "twin", "ratio"
+    );
     for row in rows() {
         let mut firsts = [0.0; 2];
         for share in Share::ALL {
@@ -114,10 +148,17 @@ fn main() {
                 firsts = [ours, theirs];
             }
             let size = format!("{share:?}").to_lowercase();
-            println!("{:<44}{size:>9}{ours:>12.1}{theirs:>12.1}{:>8.2}", row.name, ours / theirs);
+            println!(
+                "{:<44}{size:>9}{ours:>12.1}{theirs:>12.1}{:>8.2}",
+                row.name,
+                ours / theirs
+            );
             if share == Share::Full {
                 let grown = [ours / firsts[0], theirs / firsts[1]];
-                println!("{:<44}{:>9}{:>11.1}x{:>11.1}x", "  full by quarter", "", grown[0], grown[1]);
+                println!(
+                    "{:<44}{:>9}{:>11.1}x{:>11.1}x",
+                    "  full by quarter", "", grown[0], grown[1]
+                );
             }
         }
     }
