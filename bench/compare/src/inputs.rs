@@ -71,8 +71,14 @@ impl Board {
                 board.haves.push((file, content));
             }
         }
+        if random.once_in(60) {
+            let file = random.below(count);
+            board
+                .haves
+                .extend((60..random.between(60, 66)).map(|_| (file, b"again".to_vec())));
+        }
         let lines = if random.once_in(12) {
-            random.between(0, 64)
+            random.between(0, 66)
         } else {
             random.between(0, 9)
         };
@@ -122,7 +128,7 @@ impl Board {
         for file in &mut files[..kind.files] {
             *file = random.below(self.files.len());
         }
-        if !random.once_in(8) {
+        if !random.once_in(20) {
             let present = self.present();
             for file in &mut files[..kind.files - 1] {
                 if !present.is_empty() {

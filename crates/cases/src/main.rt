@@ -1,57 +1,35 @@
-//! Runs tables of cases through the calls of the library, each over both file stores, and compares what each comes to
-//! with what its row expects. Prints a line for each case, and at the end how many there are and how many differ.
+//! Plays a table of cases, which it reads from standard input, through the calls of the library. Each case is played
+//! over both file stores, and what it comes to is compared with what the table says. Prints a line for each case, and
+//! at the end how many there are and how many differ.
 #![tactic(auto)]
 
-mod books;
+mod asked;
 mod buffers;
-mod building;
-mod builds;
-mod case;
-mod hints;
-mod images;
-mod lines;
+mod desk;
+mod parts;
+mod playing;
 mod reading;
-mod refusals;
-mod rooms;
-mod runs;
-mod sequels;
-mod shared;
-mod starts;
+mod spelling;
 mod state;
-mod stepping;
-mod tally;
+mod table;
 mod telling;
-mod tickets;
 
-use books::FILLED;
-use buffers::WRITTEN;
-use case::try_all;
-use hints::HINTED;
-use images::FILLINGS;
-use lines::LINES;
-use reading::READS;
-use refusals::TRIES;
-use rooms::ROOMS;
-use runs::RUNS;
-use sequels::SEQUELS;
-use starts::STARTS;
+use playing::compare;
 use std::io;
-use tally::Tally;
-use tickets::TICKETED;
+use table::case_of;
 
 fn main(rt: HostRuntime) -> io::Result<()> {
-    let mut tally = Tally::new();
-    try_all(&rt, &mut tally, &READS)?;
-    try_all(&rt, &mut tally, &FILLINGS)?;
-    try_all(&rt, &mut tally, &LINES)?;
-    try_all(&rt, &mut tally, &STARTS)?;
-    try_all(&rt, &mut tally, &ROOMS)?;
-    try_all(&rt, &mut tally, &SEQUELS)?;
-    try_all(&rt, &mut tally, &RUNS)?;
-    try_all(&rt, &mut tally, &TRIES)?;
-    try_all(&rt, &mut tally, &TICKETED)?;
-    try_all(&rt, &mut tally, &HINTED)?;
-    try_all(&rt, &mut tally, &FILLED)?;
-    try_all(&rt, &mut tally, &WRITTEN)?;
-    tally.end(&rt)
+    let table = io::read_to_string(rt.alloc(), rt.reader())?;
+    let table = table.as_str().trim_end();
+    let mut cases = 0u32;
+    let mut differ = 0u32;
+    for block in table.split("\n\n") {
+        let Some((name, lines)) = case_of(block) else {
+            continue;
+        };
+        let is_same = compare(&rt, table, name, lines)?;
+        cases = cases.saturating_add(1);
+        differ = differ.saturating_add(!is_same as u32);
+    }
+    println!(rt; "{cases} cases, {differ} differ")
 }
