@@ -1,5 +1,5 @@
 use crate::listed::Listed;
-use crate::request::PolicyRequest;
+use console_lines::PolicyRequest;
 use model::{Command, Record};
 use policy::{HighestFirst, LastRun, LineSet, Policy, ScriptOrder};
 

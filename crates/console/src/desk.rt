@@ -1,10 +1,9 @@
 use crate::asked::Asked;
 use crate::directory::Directory;
-use crate::plain::Plain;
-use crate::request::{PolicyRequest, Request};
-use crate::telling::{
-    tell_audit, tell_book, tell_build, tell_bytes, tell_done, tell_files, tell_help, tell_log,
-    tell_pool, tell_refused, tell_saved, tell_script, tell_step, tell_what,
+use console_lines::{
+    Plain, PolicyRequest, Request, tell_audit, tell_book, tell_build, tell_bytes, tell_done,
+    tell_files, tell_help, tell_log, tell_pool, tell_refused, tell_saved, tell_script, tell_step,
+    tell_what,
 };
 use files::FileStore;
 use model::{BuildRefusal, Built, Refusal};

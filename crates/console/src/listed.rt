@@ -5,7 +5,7 @@ ghost use Rattle.policy.specs.Patiences.{most, passed};
 ghost use Rattle.console.specs.Wishes.{after, next, line};
 ghost use Rattle.std.proofs.Common.{rules};
 
-use crate::wishes::Wishes;
+use console_lines::Wishes;
 use policy::{LineSet, Patience, Policy};
 
 /// The policy that wishes for the lines of a list, over and over. A wish is used up only where the front may be passed

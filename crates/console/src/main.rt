@@ -5,18 +5,9 @@
 mod asked;
 mod desk;
 mod directory;
-mod hex;
 mod listed;
-mod numbers;
-mod plain;
-mod request;
 mod session;
-mod start;
-mod telling;
 mod terminal;
-mod told;
-mod wishes;
-mod words;
 
 use session::converse;
 use std::io;

@@ -1,10 +1,7 @@
 use crate::desk::Desk;
 use crate::directory::Directory;
-use crate::plain::Plain;
-use crate::request::Request;
-use crate::start::{Start, Store};
-use crate::telling::tell_close;
 use crate::terminal::Terminal;
+use console_lines::{Plain, Request, Start, Store, tell_close};
 use files::{Image, Table};
 use model::{Entry, Record, Wish};
 use pool::{Place, Pool};

@@ -1,4 +1,4 @@
-use crate::request::{Line, Request};
+use console_lines::{Line, Request};
 use std::alloc::Global;
 use std::io;
 use std::io::{BufRead, Write};

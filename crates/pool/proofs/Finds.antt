@@ -1,5 +1,5 @@
 -- Numbers: which are held, what content each has, and which one a search finds.
-use Rattle.std.proofs.Common.{◌≡◌, ℕ, zero, suc, ◌+◌, ◌-◌, ◌<◌, ◌≤◌, Bool, true, false, leb, List, [], ◌∷◌, length, get_or, MatchOption, Some, None, Option, sym, refl, ap, ◌∙◌, arith}
+use Rattle.std.proofs.Common.{◌≡◌, ℕ, zero, suc, ◌+◌, ◌-◌, ◌<◌, ◌≤◌, true, false, leb, List, [], ◌∷◌, length, get_or, sym, refl, ap, ◌∙◌, arith}
 use Rattle.std.proofs.lemmas.Bool.{cond-true, cond-false, and_parts, leb-true}
 use Rattle.std.specs.Str.{bytes_eq}
 use Rattle.model.specs.Contents.{holds, find, up}
@@ -25,16 +25,7 @@ find_at x (y ∷ xs) (suc i) h e none =
     let same : suc i ≡ i + 1 = omega arith in
     more ∙ ap up (same ∙ rest) ∙ sym (cond-false (bytes_eq x y) 1 (up (find x xs)) (none 0 (omega arith)))
 
--- the content of number k + 1 is the one at k
-at_place : (x : List ℕ) (xs : List (List ℕ)) (k : ℕ) (b : Bool) → bytes_eq x (get_or xs (k + 1 - 1) []) ≡ b → bytes_eq x (get_or xs k []) ≡ b
-at_place x xs k b e = let same : k ≡ k + 1 - 1 = omega arith in ap (λ i. bytes_eq x (get_or xs i [])) same ∙ e
-
 pub find_none : (x : List ℕ) (xs : List (List ℕ)) → ((k : ℕ) → k < length xs → bytes_eq x (get_or xs k []) ≡ false) → 0 ≡ find x xs
 find_none x [] none = refl
 find_none x (y ∷ xs) none =
     ap up (find_none x xs (λ k l. none (suc k) (omega arith))) ∙ sym (cond-false (bytes_eq x y) 1 (up (find x xs)) (none 0 (omega arith)))
-
--- the search by place
-pub first_found : (x : List ℕ) (xs : List (List ℕ)) (n : ℕ) (r : Option ℕ) → n ≡ length xs → MatchOption r ((k : ℕ) → 0 ≤ k → k < n → bytes_eq x (get_or xs (k + 1 - 1) []) ≡ false) (λ i. (0 ≤ i) × (i < n) × (bytes_eq x (get_or xs (i + 1 - 1) []) ≡ true) × ((k : ℕ) → 0 ≤ k → k < i → bytes_eq x (get_or xs (k + 1 - 1) []) ≡ false)) → MatchOption r (find x xs ≡ 0) (λ i. (i < n) × (find x xs ≡ i + 1))
-first_found x xs n None e h = sym (find_none x xs (λ k l. at_place x xs k false (h k (omega arith) (omega arith))))
-first_found x xs n (Some i) e h = (h.1, sym (find_at x xs i (omega arith) (at_place x xs i true h.2) (λ k l. at_place x xs k false (h.3 k (omega arith) l))))

@@ -3,4 +3,5 @@ mod Finds
 mod Puts
 mod Adds
 mod Cuts
+mod Indexes
 pub mod Sounds

@@ -7,5 +7,6 @@ pub mod Chains
 mod Entries
 pub mod Forths
 mod Highs
+mod Knowns
 mod Pieces
 mod Whole

@@ -1,12 +1,16 @@
-ghost use Rattle.std.specs.Prelude.{◌≡◌, ◌+◌, ◌-◌, ◌<◌, ◌≤◌, MatchOption, min, true, false, [], length, take, IfSome, is_ok, is_some, nat_lt};
+ghost use Rattle.std.specs.Prelude.{◌≡◌, ◌+◌, ◌-◌, ◌≤◌, min, true, false, [], length, take, IfSome, is_ok, is_some, nat_lt};
 ghost use Rattle.std.specs.Option.{option_map};
 ghost use Rattle.std.specs.Str.{bytes_eq};
+ghost use Rattle.index.specs.Newest.{numbered};
+ghost use Rattle.index.specs.Sums.{bucket_of};
 ghost use Rattle.model.specs.Contents.{content as content_of, count as count_of, used as used_by, told, holds, known, find, mem, fits, given, put, cut};
 ghost use Rattle.pool.specs.Contents.{meant, shown, part, number_told, number_found};
 ghost use Rattle.pool.specs.Sound.{Sound};
 
 use super::Pool;
+use super::same::Same;
 use crate::{Content, Found, NoRoom, Place, Put};
+use index::{Bucket, Index};
 
 impl<'a> Pool<'a> {
     /// An empty pool over what is lent.
@@ -18,6 +22,7 @@ impl<'a> Pool<'a> {
             places,
             used: 0,
             count: 0,
+            index: Index::new(),
         }
     }
 
@@ -86,7 +91,8 @@ impl<'a> Pool<'a> {
         ensures number { number_found result ≡ find content.now (meant self.now).contents }
         ensures found { is_some result ≡ nat_lt 0 (find content.now (meant self.now).contents) }
     {
-        self.place_of(content).map(|at| Found { number: at + 1 })
+        self.number_of(Bucket::of(content), content)
+            .map(|number| Found { number })
     }
 
     /// The number of the content. Unless an equal one is held, it is appended, or refused where it is over 4,096
@@ -96,13 +102,14 @@ impl<'a> Pool<'a> {
         ensures taken { is_ok result ≡ nat_lt 0 (given (meant self.old) content.now) }
         ensures after { meant self.new ≡ put (meant self.old) content.now }
     {
-        if let Some(Found { number }) = self.find(content) {
+        let bucket = Bucket::of(content);
+        if let Some(number) = self.number_of(bucket, content) {
             return Ok(Put { number });
         }
         if !self.fits(content) {
             return Err(NoRoom);
         }
-        self.append(content);
+        self.append(bucket, content);
         let number = self.count;
         Ok(Put { number })
     }
@@ -114,18 +121,24 @@ impl<'a> Pool<'a> {
         if count < self.count {
             self.used = self.places[count as usize].start;
             self.count = count;
+            self.index.cut(count);
         }
     }
 
-    /// The place of the first content that equals this one, if there is one.
-    fn place_of(&self, content: &[u8]) -> Option<u16>
-        ensures { MatchOption result (find content.now (meant self.now).contents ≡ 0) (λ at. (at < self.now.count) × (find content.now (meant self.now).contents ≡ at + 1)) }
+    /// The number of the content that equals this one, which has this bucket, if there is one.
+    fn number_of(&self, bucket: Bucket, content: &[u8]) -> Option<u16>
+        requires { bucket.at ≡ bucket_of content.now }
+        ensures { result ≡ numbered (find content.now (meant self.now).contents) }
     {
-        (0..self.count).find(|at| self.equals(*at + 1, content))
+        let same = Same {
+            pool: self,
+            content,
+        };
+        self.index.find(bucket, &same)
     }
 
     /// The content of a number is this one.
-    fn equals(&self, number: u16, content: &[u8]) -> bool
+    pub(super) fn equals(&self, number: u16, content: &[u8]) -> bool
         ensures { result ≡ bytes_eq content.now (content_of (meant self.now) number) }
     {
         content == self.bytes(number)
@@ -143,8 +156,9 @@ impl<'a> Pool<'a> {
         len <= 4096 && count + 1 <= places && used + len <= room
     }
 
-    /// Appends a content that it does not hold and has room for.
-    fn append(&mut self, content: &[u8])
+    /// Appends a content that has this bucket, that it does not hold and has room for.
+    fn append(&mut self, bucket: Bucket, content: &[u8])
+        requires bucket { bucket.at ≡ bucket_of content.now }
         requires fresh { mem content.now (meant self.old).contents ≡ false }
         requires fits { fits (meant self.old) content.now ≡ true }
         ensures after { meant self.new ≡ put (meant self.old) content.now }
@@ -158,5 +172,6 @@ impl<'a> Pool<'a> {
         self.places[at] = Place { start, len };
         self.used = end;
         self.count += 1;
+        self.index.push(bucket);
     }
 }

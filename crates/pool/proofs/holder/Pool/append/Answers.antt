@@ -1,10 +1,12 @@
 -- One place more, right behind the others, and its bytes: one content more.
-use Rattle.std.proofs.Common.{◌+◌, ◌-◌, ◌<◌, length, sym, subst, arith, rules}
+use Rattle.std.proofs.Common.{◌+◌, ◌-◌, ◌<◌, map, length, sym, ap, subst, ◌∙◌, arith, rules}
 use borrow.Rule.Slice.PartMut.{take_put}
+use Rattle.index.proofs.Equals.{added}
+use Rattle.index.specs.Sums.{bucket_of}
 use Rattle.pool.specs.Contents.{meant, held}
 use Rattle.pool.specs.Sound.{Apart}
 use Rattle.pool.proofs.Adds.{short_added, pieces_kept, pieces_added, copied_piece, packed_added, filled_added, apart_added}
-use Rattle.pool.proofs.Places.{inside, all_bytes, all_places}
+use Rattle.pool.proofs.Places.{inside, all_bytes, all_places, count_held}
 use Rattle.pool.proofs.Puts.{fitting, put_fresh}
 use Rattle.pool.proofs.holder.Pool.append.Goals as goal
 
@@ -23,6 +25,7 @@ invariant_of-self c =
       filled = p.filled;
       short = p.short;
       apart = subst Apart (sym same) p.apart;
+      indexed = p.indexed ∙ ap (map bucket_of) (sym same);
     }
 
 pub invariant_of-self-2 : goal.invariant_of-self-2
@@ -43,6 +46,9 @@ invariant_of-self-2 c =
       filled = filled_added p.used (length x) p.count p.places.now place p.filled;
       short = short_added p.used (length x) p.count p.places.now place p.short f.short;
       apart = apart_added (held p) _ x c.requires.fresh more p.apart;
+      indexed =
+          c.push.ensures ∙ added x (held p) p.index c.args.bucket.at p.indexed c.requires.bucket (omega (arith, count_held p, f.place))
+          ∙ ap (map bucket_of) (sym more);
     }
 
 pub returns-clause-after : goal.returns-clause-after

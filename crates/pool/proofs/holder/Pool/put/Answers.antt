@@ -10,7 +10,7 @@ pub returns-in-Some : goal.returns-in-Some
 returns-in-Some c =
     let p = meant c.args.self.now in
     let x = c.args.content.now in
-    let n = c.in-Some.field-0.number in
+    let n = c.in-Some.number in
     let is : n ≡ find x p.contents = search rules in
     let some : n ≡ 0 → ⊥ = search rules in
     let given = given_known p x n is some in

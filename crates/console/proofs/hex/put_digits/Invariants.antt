@@ -1,6 +1,0 @@
-use Rattle.std.proofs.Common.{◌≡◌, ◌++◌, drop}
-use Rattle.console.specs.Hex.{digits}
-use Rattle.console.proofs.hex.put_digits.Given as goal
-
-abbrev pub invariant-loop-byte : goal.invariant-loop-byte
-invariant-loop-byte l = l.out.items ++ digits (drop l.byte-index l.bytes) ≡ l.fn.out.items ++ digits l.bytes

@@ -1,0 +1,9 @@
+pub mod Hex
+pub mod Numbers
+pub mod Lists
+pub mod Words
+pub mod Names
+pub mod Requests
+pub mod Meanings
+pub mod Told
+pub mod Answered

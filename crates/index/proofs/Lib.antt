@@ -1,0 +1,4 @@
+pub mod Equals
+pub mod Newests
+mod Steps
+mod Walks

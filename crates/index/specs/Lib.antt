@@ -1,0 +1,4 @@
+pub mod Sums
+pub mod Equal
+pub mod Newest
+pub mod Chained

@@ -1,0 +1,25 @@
+-- The bucket of a string of bytes.
+use Rattle.std.specs.Prelude.{ℕ, ◌+◌, ◌*◌, ◌/◌, ◌%◌, ◌^◌, List, length, drop, bit_xor}
+use Rattle.std.specs.List.{fold}
+use Rattle.std.specs.Int.{w64, from_le_bytes}
+use Rattle.std.specs.Simd.{first_chunks}
+
+-- A sum with one word more, all of them below 2 ^ 64. The product makes the low bits count in all higher ones, and the
+-- exclusive or makes the high half count in the low one, and so in what comes after.
+abbrev pub mixed : ℕ → ℕ → ℕ
+mixed sum word = let product = (sum + word) % 2 ^ 64 * 11400714819323198485 % 2 ^ 64 in bit_xor product (product / 2 ^ 32)
+
+-- eight bytes, as one word
+abbrev pub mixed_eight : ℕ → List ℕ → ℕ
+mixed_eight sum bytes = mixed sum (from_le_bytes w64 bytes)
+
+-- the sum of some bytes: of their count, of each eight of them, and of each one that is left
+abbrev pub sum_of : List ℕ → ℕ
+sum_of bytes =
+    let eights = first_chunks 8 (length bytes / 8) bytes in
+    let rest = drop (length bytes / 8 * 8) bytes in
+    fold mixed (fold mixed_eight (length bytes) eights) rest
+
+-- the highest ten bits of the sum
+unfoldable pub bucket_of : List ℕ → ℕ
+bucket_of bytes = sum_of bytes / 2 ^ 54
