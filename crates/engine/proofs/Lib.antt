@@ -1,6 +1,7 @@
 pub mod Lists
 pub mod Nexts
 pub mod Fits
+pub mod Meets
 pub mod Turns
 pub mod Replays
 pub mod Listing

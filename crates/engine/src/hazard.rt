@@ -1,6 +1,6 @@
 ghost use Rattle.std.specs.Prelude.{◌≡◌, None};
 ghost use Rattle.model.specs.Hazards.{earliest, hazard_or, hazard};
-ghost use Rattle.engine.specs.Meets.{meets};
+ghost use Rattle.engine.specs.Meets.{meets, write_hazard};
 
 use model::{Entry, Hazard, HazardKind};
 
@@ -41,12 +41,26 @@ fn hazard_by(kind: HazardKind, entries: &[Entry], new: Entry) -> Option<Hazard>
     })
 }
 
+/// The hazard of a new write, given the earlier entries.
+fn hazard_of_write(entries: &[Entry], new: Entry) -> Option<Hazard>
+    ensures { result ≡ write_hazard new entries.now }
+{
+    hazard_by(HazardKind::WriteWrite, entries, new).or_else(|| hazard_by(
+        HazardKind::ReadWrite,
+        entries,
+        new,
+    ))
+}
+
 // Kept: an `Option`, as above; the hazard becomes an error in `note`.
 /// The hazard of a new entry, given the earlier ones.
 pub fn hazard_of(entries: &[Entry], new: Entry) -> Option<Hazard>
     ensures { result ≡ hazard new entries.now }
 {
-    hazard_by(HazardKind::WriteWrite, entries, new)
-        .or_else(|| hazard_by(HazardKind::ReadWrite, entries, new))
-        .or_else(|| hazard_by(HazardKind::SpeculativeWriteRead, entries, new))
+    // A kind of which the new entry cannot be is not looked for.
+    if new.wrote {
+        hazard_of_write(entries, new)
+    } else {
+        hazard_by(HazardKind::SpeculativeWriteRead, entries, new)
+    }
 }

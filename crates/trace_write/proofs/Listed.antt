@@ -63,10 +63,13 @@ module _ (n : ℕ) (ns : List ℕ) where
     where
       here : eqb n n ≡ true
       here = eq-eqb n n refl
+
       there : list_any (λ m. eqb m n) (ns ++ n ∷ []) ≡ true
       there = list_any-append (λ m. eqb m n) ns (n ∷ []) ∙ ap (λ b. b || (eqb n n || false)) e ∙ ap (λ b. b || false) here
+
       last : position_or_len (λ m. eqb m n) ns ≡ length ns
       last = omega (arith, place_past n ns e, prefix_len-le-length (λ m. not (eqb m n)) ns)
+
       at_end : cond (eqb (position_or_len (λ m. eqb m n) ns) (length ns)) (length ns + cond (eqb n n) 0 1) (position_or_len (λ m. eqb m n) ns) ≡ length ns
       at_end =
           cond-true (eqb (position_or_len (λ m. eqb m n) ns) (length ns)) _ _ (eq-eqb _ _ last)
@@ -82,9 +85,10 @@ module _ (n : ℕ) (ns : List ℕ) where
           list_any-append (λ k. eqb k m) ns (n ∷ [])
           ∙ ap (λ b. list_any (λ k. eqb k m) ns || (b || false)) (ne_eqb n m (λ e. ne (sym e)))
           ∙ or-false (list_any (λ k. eqb k m) ns)
+
       by : (b : Bool) → (b ≡ true → place m ns ≤ length ns) → cond b (place m (ns ++ n ∷ [])) 0 ≡ cond b (place m ns) 0
       by false h = refl
       by true h =
           ap (λ k. k + 1)
-            (position_or_len_push (λ k. eqb k m) ns n
-            ∙ cond-false (eqb (position_or_len (λ k. eqb k m) ns) (length ns)) _ _ (ne_eqb _ _ (λ e. let low = h refl in omega arith)))
+          (position_or_len_push (λ k. eqb k m) ns n
+          ∙ cond-false (eqb (position_or_len (λ k. eqb k m) ns) (length ns)) _ _ (ne_eqb _ _ (λ e. let low = h refl in omega arith)))

@@ -40,7 +40,10 @@ impl Waits {
     fn is_held_up(&self, among: &LineSet, line: u8) -> bool
         ensures { result ≡ some_below (held_up (waits self.now) (has among.now) line) line }
     {
-        (0..line).any(|earlier| among.has(earlier) && self.on(line, earlier))
+        // From above: a line without a record is held up by the next lower one of the set.
+        (0..line)
+            .rev()
+            .any(|earlier| among.has(earlier) && self.on(line, earlier))
     }
 
     /// A line is of the set and waits on no line of it.

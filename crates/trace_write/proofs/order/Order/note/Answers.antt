@@ -19,8 +19,8 @@ push-requires c =
 
 -- the table with the new number's place
 placed : (n : ℕ) (ns places : List ℕ) (at : ℕ) → length places ≡ 1025 → n ≤ 1024 → list_any (λ m. eqb m n) ns ≡ false → at ≡ length ns + 1
-  → ((m : ℕ) → m ≤ 1024 → slice_index places m ≡ place_listed m ns)
-  → (m : ℕ) → m ≤ 1024 → slice_index (slice_set places n at) m ≡ place_listed m (ns ++ n ∷ [])
+    → ((m : ℕ) → m ≤ 1024 → slice_index places m ≡ place_listed m ns)
+    → (m : ℕ) → m ≤ 1024 → slice_index (slice_set places n at) m ≡ place_listed m (ns ++ n ∷ [])
 placed n ns places at size low new at_end old m few =
     elim (cases_eq m n) [
       | inl e ↦ subst (λ k. slice_index (slice_set places n at) k ≡ place_listed k (ns ++ n ∷ [])) (sym e)
