@@ -4,3 +4,4 @@ pub mod Lists
 pub mod Nexts
 pub mod Fits
 pub mod States
+pub mod Owns

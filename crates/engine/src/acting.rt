@@ -9,7 +9,7 @@ ghost use Rattle.engine.specs.States.{outcome, met, state, writes_out};
 
 use crate::acts::Acts;
 use crate::hazard::hazard_of;
-use crate::next::{Next, Text, next_of};
+use crate::next::{Next, Text, next_in};
 use crate::text::fill;
 use files::FileStore;
 use lists::Lent;
@@ -64,11 +64,7 @@ fn read<F: FileStore>(
             fault: Fault::Absent,
         });
     }
-    let acts = Acts {
-        line,
-        entries: entries.as_slice(),
-    };
-    match next_of(command, &acts, pool) {
+    match next_in(command, line, entries.as_slice(), pool) {
         Next::Bad => Err(Stop {
             line,
             fault: Fault::BadList,
@@ -127,11 +123,7 @@ pub fn act<F: FileStore>(
     ensures outcome { outcome result (state (F.FileStore.map files.new) pool.new entries.new) ≡ acts (want command) line (state (F.FileStore.map files.old) pool.old entries.old) }
     ensures room { room entries.new ≡ room entries.old }
 {
-    let acts = Acts {
-        line,
-        entries: entries.as_slice(),
-    };
-    match next_of(command, &acts, pool) {
+    match next_in(command, line, entries.as_slice(), pool) {
         Next::Read(file) => read(command, line, file, files, pool, entries),
         Next::Write(file, text) => write(line, file, text, files, pool, entries),
         Next::Bad => Err(Stop {

@@ -7,6 +7,7 @@ mod hazard;
 mod line;
 mod list;
 mod next;
+mod own;
 mod replay;
 mod skipping;
 mod text;

@@ -7,15 +7,15 @@ ghost use Rattle.pool.specs.Contents.{meant};
 
 use crate::acts::Acts;
 use crate::next::{Next, next_of};
+use crate::own::{ACTS, list_own};
+use lists::Lent;
 use model::{Command, Entry, LineState, Record, Standing};
 use pool::Pool;
 
-// Kept: a caller has a line and a log, and would make an `Acts` for one call; inside they go together.
-/// How far a line has come.
-pub fn line_state(command: Command, line: u8, entries: &[Entry], pool: &Pool) -> LineState
-    ensures { result ≡ line_state (want command) line (meant pool.now) entries.now }
+/// How far a line has come, by what it has done.
+fn state_of(command: Command, acts: &Acts, pool: &Pool) -> LineState
+    ensures { result ≡ line_state (want command) acts.now.line (meant pool.now) acts.now.entries.now }
 {
-    let acts = Acts { line, entries };
     if acts.has_ended() {
         return LineState::Ended;
     }
@@ -25,9 +25,37 @@ pub fn line_state(command: Command, line: u8, entries: &[Entry], pool: &Pool) ->
     if acts.has_read_absent() {
         return LineState::Reading;
     }
-    match next_of(command, &acts, pool) {
+    match next_of(command, acts, pool) {
         Next::Write(_, _) => LineState::Writing,
         Next::Read(_) | Next::Bad => LineState::Reading,
+    }
+}
+
+// Kept: a caller has a line and a log, and would make an `Acts` for one call; inside they go together.
+/// How far a line has come.
+pub fn line_state(command: Command, line: u8, entries: &[Entry], pool: &Pool) -> LineState
+    ensures { result ≡ line_state (want command) line (meant pool.now) entries.now }
+{
+    let mut room = [Entry::default(); ACTS];
+    let mut own = Lent::new(&mut room);
+    if list_own(line, entries, &mut own) {
+        let entries = own.as_slice();
+        return state_of(command, &Acts { line, entries }, pool);
+    }
+    state_of(command, &Acts { line, entries }, pool)
+}
+
+/// The own record of a line that has ended, by what it has done.
+fn record_of(command: Command, acts: &Acts) -> Record
+    requires { length (reads_of acts.now.line acts.now.entries.now) ≤ 16 }
+    ensures { said result ≡ record_made acts.now.line command acts.now.entries.now }
+{
+    Record {
+        command,
+        reads: acts.reads(),
+        count: acts.count() as u8,
+        write: acts.write(),
+        standing: Standing::Own,
     }
 }
 
@@ -37,12 +65,11 @@ pub fn recorded(command: Command, line: u8, entries: &[Entry]) -> Record
     requires { length (reads_of line entries.now) ≤ 16 }
     ensures { said result ≡ record_made line command entries.now }
 {
-    let acts = Acts { line, entries };
-    Record {
-        command,
-        reads: acts.reads(),
-        count: acts.count() as u8,
-        write: acts.write(),
-        standing: Standing::Own,
+    let mut room = [Entry::default(); ACTS];
+    let mut own = Lent::new(&mut room);
+    if list_own(line, entries, &mut own) {
+        let entries = own.as_slice();
+        return record_of(command, &Acts { line, entries });
     }
+    record_of(command, &Acts { line, entries })
 }

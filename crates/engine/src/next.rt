@@ -6,7 +6,9 @@ ghost use Rattle.engine.specs.Nexts.{wanted, gather_next};
 
 use crate::acts::Acts;
 use crate::list::{file_at, is_list};
-use model::{Command, Kind};
+use crate::own::{ACTS, list_own};
+use lists::Lent;
+use model::{Command, Entry, Kind};
 use pool::Pool;
 
 /// The content that a line writes, by the numbers of what it read.
@@ -78,4 +80,17 @@ pub(crate) fn next_of(command: Command, acts: &Acts, pool: &Pool) -> Next
             None => Next::Read(command.b),
         },
     }
+}
+
+/// What a line of a command does next, by its own entries.
+pub(crate) fn next_in(command: Command, line: u8, entries: &[Entry], pool: &Pool) -> Next
+    ensures { wanted (meant pool.now) line entries.now result ≡ want command (has_read (meant pool.now) line entries.now) }
+{
+    let mut room = [Entry::default(); ACTS];
+    let mut own = Lent::new(&mut room);
+    if list_own(line, entries, &mut own) {
+        let entries = own.as_slice();
+        return next_of(command, &Acts { line, entries }, pool);
+    }
+    next_of(command, &Acts { line, entries }, pool)
 }

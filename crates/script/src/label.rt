@@ -1,5 +1,6 @@
 ghost use Rattle.std.specs.Prelude.{◌≡◌, ◌≤◌, map, length};
 ghost use Rattle.std.specs.Option.{option_map};
+ghost use Rattle.std.specs.Str.{bytes_eq};
 ghost use Rattle.script.specs.Text.{label_byte, is_label, file_of, files_of};
 ghost use Rattle.script.specs.Views.{four};
 
@@ -19,11 +20,21 @@ pub(crate) fn is_label(word: &[u8]) -> bool
     word.len() <= LONGEST && word.iter().all(|b| is_label_byte(*b))
 }
 
+/// A label is this word. Most labels differ in their last byte, so it is compared first.
+fn is_same(label: &[u8], word: &[u8]) -> bool
+    ensures { result ≡ bytes_eq label.now word.now }
+{
+    if label.last() != word.last() {
+        return false;
+    }
+    label == word
+}
+
 /// The file that has a label.
 pub(crate) fn file_of(labels: &[&[u8]; 64], label: &[u8]) -> Option<u8>
     ensures { result ≡ file_of (map (λ x. x.now) labels.now) label.now }
 {
-    let file = labels.iter().position(|held| *held == label)?;
+    let file = labels.iter().position(|held| is_same(held, label))?;
     Some(file as u8)
 }
 

@@ -18,6 +18,6 @@ returns-in_default g c =
     record {
       outcome =
           read_goes c.args.command c.args.line c.args.file c.known-number.result (g.F.FileStore.map c.args.files.now) p (held c.args.entries.now) (held c.note.new.entries) c.as_slice.result.now
-          (c.known-number.ensures ∙ ap (known p) c.tell.ensures) (unmet c.args.line _ _ c.in_ok-note.ensures.hazard) c.note.ensures.held c.as_slice.ensures c.if-number-eq0.false c.next_of.result c.in_default.not-Bad c.next_of.ensures;
+          (c.known-number.ensures ∙ ap (known p) c.tell.ensures) (unmet c.args.line _ _ c.in_ok-note.ensures.hazard) c.note.ensures.held c.as_slice.ensures c.if-number-eq0.false c.next_in.result c.in_default.not-Bad c.next_in.ensures;
       room = c.note.ensures.room;
     }
