@@ -7,7 +7,7 @@ ghost use Rattle.pool.specs.Contents.{meant};
 
 use crate::acts::Acts;
 use crate::next::{Next, next_of};
-use crate::own::{ACTS, list_own};
+use crate::own::{ACTS, Walk, list_own, list_unended};
 use lists::Lent;
 use model::{Command, Entry, LineState, Record, Standing};
 use pool::Pool;
@@ -38,11 +38,14 @@ pub fn line_state(command: Command, line: u8, entries: &[Entry], pool: &Pool) ->
 {
     let mut room = [Entry::default(); ACTS];
     let mut own = Lent::new(&mut room);
-    if list_own(line, entries, &mut own) {
-        let entries = own.as_slice();
-        return state_of(command, &Acts { line, entries }, pool);
+    match list_unended(line, entries, &mut own) {
+        Walk::Ended => LineState::Ended,
+        Walk::Listed => {
+            let entries = own.as_slice();
+            state_of(command, &Acts { line, entries }, pool)
+        }
+        Walk::Full => state_of(command, &Acts { line, entries }, pool),
     }
-    state_of(command, &Acts { line, entries }, pool)
 }
 
 /// The own record of a line that has ended, by what it has done.

@@ -1,6 +1,8 @@
 ghost use Rattle.std.specs.Prelude.{◌≡◌, true, [], ◌∷◌, ◌++◌};
 ghost use Rattle.lists.specs.Held.{held};
+ghost use Rattle.model.specs.Hazards.{ended};
 ghost use Rattle.engine.specs.Owns.{own_in};
+ghost use Rattle.engine.specs.declared.own.Walk.TheVariants.{Ended, Listed};
 
 use lists::Lent;
 use model::Entry;
@@ -26,4 +28,34 @@ pub(crate) fn list_own(line: u8, entries: &[Entry], own: &mut Lent<Entry>) -> bo
         }
     }
     true
+}
+
+/// Where the walk of `list_unended` stopped.
+#[derive(Clone, Copy, Debug, PartialEq, Eq)]
+pub(crate) enum Walk {
+    /// At the write of the line.
+    Ended,
+    /// After the last entry: all of the line are listed.
+    Listed,
+    /// At an entry of the line that the list had no room for.
+    Full,
+}
+
+// Kept: a walk apart from `list_own`, which lists a line that has ended too, since its record is made of all its acts.
+/// Lists the entries of a line that has not ended, in one walk. It stops at the line's write, since that one entry
+/// tells that the line has ended, however many follow.
+pub(crate) fn list_unended(line: u8, entries: &[Entry], own: &mut Lent<Entry>) -> Walk
+    requires { held own.old ≡ [] }
+    ensures ended { result ≡ Ended → ended line entries.now ≡ true }
+    ensures listed { result ≡ Listed → held own.new ≡ own_in line entries.now }
+{
+    for entry in entries {
+        if line == entry.line && entry.wrote {
+            return Walk::Ended;
+        }
+        if !list_one(line, *entry, own) {
+            return Walk::Full;
+        }
+    }
+    Walk::Listed
 }

@@ -2,14 +2,13 @@ ghost use Rattle.std.specs.Prelude.{◌≡◌, ◌+◌, ◌<◌, ◌&&◌, ◌�
 ghost use Rattle.lists.specs.Held.{held, room};
 ghost use Rattle.model.specs.Contents.{Pool as PoolMeant};
 ghost use Rattle.model.specs.Step.{match as matching, all_held, entry as entry_of, skip as skips};
-ghost use Rattle.model.specs.Records.{said};
 ghost use Rattle.pool.specs.Contents.{meant};
 ghost use Rattle.engine.specs.States.{outcome};
 
 use crate::acting::note;
 use files::FileStore;
 use lists::Lent;
-use model::{Entry, Record, Stop, Use};
+use model::{Entry, Stop, Use};
 use pool::Pool;
 
 // Kept: no `From`, since an entry has a line and a direction too.
@@ -40,11 +39,10 @@ fn do_match<F: FileStore>(reads: &[Use], files: &F) -> bool
 }
 
 /// The acts of a record can be made again: each number is in the pool, and the files hold what was read.
-pub fn can_skip<F: FileStore>(rec: &Record, files: &F, pool: &Pool) -> bool
-    ensures { result ≡ (all_held (meant pool.now) ((said rec.now).write ∷ (said rec.now).reads) && matching (F.FileStore.map files.now) (said rec.now).reads) }
+pub fn can_skip<F: FileStore>(reads: &[Use], write: Use, files: &F, pool: &Pool) -> bool
+    ensures { result ≡ (all_held (meant pool.now) (write ∷ reads.now) && matching (F.FileStore.map files.now) reads.now) }
 {
-    let reads = rec.reads();
-    let held = pool.holds(rec.write.number) && are_held(reads, pool);
+    let held = pool.holds(write.number) && are_held(reads, pool);
     held && do_match(reads, files)
 }
 
@@ -52,18 +50,18 @@ pub fn can_skip<F: FileStore>(rec: &Record, files: &F, pool: &Pool) -> bool
 /// A line makes the acts of a record in order; the first hazard stops the run. The pool, whatever it is, stays.
 pub fn skip<F: FileStore>(
     line: u8,
-    rec: &Record,
+    reads: &[Use],
+    write: Use,
     files: &mut F,
     entries: &mut Lent<Entry>,
 ) -> Result<(), Stop>
-    requires { length (held entries.old) + length (said rec.now).reads < room entries.old }
-    ensures outcome { (p : PoolMeant) → outcome result (record { files = F.FileStore.map files.new; pool = p; entries = held entries.new }) ≡ skips line (said rec.now).reads (said rec.now).write (record { files = F.FileStore.map files.old; pool = p; entries = held entries.old }) }
+    requires { length (held entries.old) + length reads.now < room entries.old }
+    ensures outcome { (p : PoolMeant) → outcome result (record { files = F.FileStore.map files.new; pool = p; entries = held entries.new }) ≡ skips line reads.now write (record { files = F.FileStore.map files.old; pool = p; entries = held entries.old }) }
     ensures room { room entries.new ≡ room entries.old }
 {
-    let reads = rec.reads();
     for act in reads {
         note(entries, entry(line, false, *act))?;
     }
-    files.set(rec.write.file, rec.write.number);
-    note(entries, entry(line, true, rec.write))
+    files.set(write.file, write.number);
+    note(entries, entry(line, true, write))
 }

@@ -1,5 +1,5 @@
 -- The bucket of a string of bytes.
-use Rattle.std.specs.Prelude.{ℕ, ◌+◌, ◌*◌, ◌/◌, ◌%◌, ◌^◌, List, length, drop, bit_xor}
+use Rattle.std.specs.Prelude.{ℕ, ◌+◌, ◌-◌, ◌*◌, ◌/◌, ◌%◌, ◌^◌, cond, nat_le, List, length, take, drop, bit_xor}
 use Rattle.std.specs.List.{fold}
 use Rattle.std.specs.Int.{w64, from_le_bytes}
 use Rattle.std.specs.Simd.{first_chunks}
@@ -13,12 +13,19 @@ mixed sum word = let product = (sum + word) % 2 ^ 64 * 11400714819323198485 % 2 
 abbrev pub mixed_eight : ℕ → List ℕ → ℕ
 mixed_eight sum bytes = mixed sum (from_le_bytes w64 bytes)
 
--- the sum of some bytes: of their count, of each eight of them, and of each one that is left
-abbrev pub sum_of : List ℕ → ℕ
-sum_of bytes =
+-- a sum with some bytes more: with each eight of them, and with each one that is left
+abbrev pub summed : ℕ → List ℕ → ℕ
+summed sum bytes =
     let eights = first_chunks 8 (length bytes / 8) bytes in
     let rest = drop (length bytes / 8 * 8) bytes in
-    fold mixed (fold mixed_eight (length bytes) eights) rest
+    fold mixed (fold mixed_eight sum eights) rest
+
+-- The sum of a string: of its length and its bytes, where they are more than 64 of the first 32 and the last 32 alone.
+-- Strings that differ only between these have one bucket.
+abbrev pub sum_of : List ℕ → ℕ
+sum_of bytes =
+    let n = length bytes in
+    cond (nat_le n 64) (summed n bytes) (summed (summed n (take 32 bytes)) (drop (n - 32) bytes))
 
 -- the highest ten bits of the sum
 unfoldable pub bucket_of : List ℕ → ℕ

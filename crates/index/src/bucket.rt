@@ -1,5 +1,5 @@
 ghost use Rattle.std.specs.Prelude.{◌≡◌, ◌<◌};
-ghost use Rattle.index.specs.Sums.{mixed, bucket_of};
+ghost use Rattle.index.specs.Sums.{mixed, summed, bucket_of};
 
 /// One of the 1,024 buckets.
 #[derive(Clone, Copy)]
@@ -9,22 +9,34 @@ pub struct Bucket {
 }
 
 impl Bucket {
-    /// The bucket of a string of bytes.
+    /// The bucket of a string of bytes. Of more than 64 bytes only both ends are summed up, so that what it takes does
+    /// not grow with the string.
     pub fn of(bytes: &[u8]) -> Bucket
         ensures { result.at ≡ bucket_of bytes.now }
     {
-        let (eights, rest) = bytes.as_chunks::<8>();
-        let sum = eights.iter().fold(
-            bytes.len() as u64,
-            |sum, eight| mixed(sum, u64::from_le_bytes(*eight)),
-        );
-        let sum = rest
-            .iter()
-            .fold(sum, |sum, byte| mixed(sum, u64::from(*byte)));
+        let len = bytes.len();
+        let sum = if len <= 64 {
+            summed(len as u64, bytes)
+        } else {
+            let front = summed(len as u64, &bytes[..32]);
+            summed(front, &bytes[len - 32..])
+        };
         Bucket {
             at: (sum >> 54) as u16,
         }
     }
+}
+
+/// The sum with some bytes more.
+fn summed(sum: u64, bytes: &[u8]) -> u64
+    ensures { result ≡ summed sum bytes.now }
+{
+    let (eights, rest) = bytes.as_chunks::<8>();
+    let sum = eights
+        .iter()
+        .fold(sum, |sum, eight| mixed(sum, u64::from_le_bytes(*eight)));
+    rest.iter()
+        .fold(sum, |sum, byte| mixed(sum, u64::from(*byte)))
 }
 
 /// The sum with one word more.

@@ -6,3 +6,4 @@ mod releasing;
 mod unrecorded;
 
 pub use releasing::release;
+pub use unrecorded::Unrecorded;

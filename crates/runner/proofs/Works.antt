@@ -1,13 +1,13 @@
 -- What a working step leaves: the record that it finds, the room that it has, the facts of a log, and the world.
-use Rattle.std.proofs.Common.{◌≡◌, ℕ, ◌+◌, ◌<◌, ◌≤◌, Bool, true, false, cond, ◌&&◌, List, ◌∷◌, length, min, get_or, set, Some, None, Option, Ok, Err, Result, sym, refl, ap, ◌∙◌, inl, inr, arith}
-use Rattle.std.proofs.lemmas.List.{get_or_default, get_or-set_same, get_or-set_other, length-take}
+use Rattle.std.proofs.Common.{◌≡◌, ℕ, ◌+◌, ◌<◌, ◌≤◌, Bool, true, false, cond, ◌&&◌, List, ◌∷◌, length, get_or, set, Some, None, Option, Ok, Err, Result, sym, refl, ap, ◌∙◌, inl, inr, arith}
+use Rattle.std.proofs.lemmas.List.{get_or_default, get_or-set_same, get_or-set_other}
 use Rattle.std.proofs.lemmas.Bool.{cases_eq}
 use Rattle.std.specs.Result.{result_err}
 use Rattle.lists.specs.Held.{held, room}
 use Rattle.engine.specs.States.{outcome}
 use Rattle.model.specs.declared.command.Command.{Command}
 use Rattle.model.specs.declared.command.Kind.TheVariants.{Copy}
-use Rattle.model.specs.declared.record.Record as Code
+use Rattle.model.specs.declared.record.Use.{Use}
 use Rattle.model.specs.declared.run.Entry.{Entry}
 use Rattle.model.specs.declared.run.LineState.{LineState}
 use Rattle.model.specs.declared.run.LineState.TheVariants.{Waiting}
@@ -17,7 +17,7 @@ use Rattle.model.specs.Book.{own, record_of}
 use Rattle.model.specs.Commands.{Want, want, wants}
 use Rattle.model.specs.Contents.{Content, Pool}
 use Rattle.model.specs.Hazards.{fresh, ended}
-use Rattle.model.specs.Records.{Record, said}
+use Rattle.model.specs.Records.{Record}
 use Rattle.model.specs.Step.{left, match, all_held, usable, skips, skip, record_for, work_by, work, noting, moved, after_work}
 use Rattle.model.specs.World.{World, state}
 use Rattle.model.proofs.Sound.{left_parts}
@@ -46,10 +46,6 @@ reached_is (Some y) s = refl
 stop_is : (y : Option Stop) (s : State) → stop_of (stopping y s) ≡ y
 stop_is None s = refl
 stop_is (Some y) s = refl
-
--- a record of the code has at most 16 reads
-pub said_few : (x : Code.Record) → length (said x).reads ≤ 16
-said_few x = omega (arith, length-take (min x.count 16) x.reads)
 
 -- A LINE THAT IS LEFT
 module _ (i : Inner) (l : ℕ) (m : left (length (notes i.run).commands) (held i.entries) l ≡ true) where
@@ -136,10 +132,10 @@ module _ (i : Inner) (l : ℕ) (m : left (length (notes i.run).commands) (held i
       pub not_found : (d : Command) → true ≡ is_waiting (get_or i.run.states l st) → None ≡ record_of (get_or i.run.commands l d) rs → None ≡ record_for w l
       not_found d e f = by_record d true None e f
 
-      pub by_tests : (d : Command) (q : Record) (a b : Bool) → true ≡ is_waiting (get_or i.run.states l st) → Some q ≡ record_of (get_or i.run.commands l d) rs → a ≡ own q.standing → b ≡ (all_held p (q.write ∷ q.reads) && match fs q.reads) → cond (a && b) (Some q) None ≡ record_for w l
-      by_tests d q a b e f t u =
+      pub by_tests : (d : Command) (q : Record) (us : List Use) (a b : Bool) → us ≡ q.reads → true ≡ is_waiting (get_or i.run.states l st) → Some q ≡ record_of (get_or i.run.commands l d) rs → a ≡ own q.standing → b ≡ (all_held p (q.write ∷ us) && match fs us) → cond (a && b) (Some q) None ≡ record_for w l
+      by_tests d q us a b r e f t u =
           ap (λ z. cond (z && b) (Some q) None) t
-          ∙ ap (λ z. cond (own q.standing && z) (Some q) None) u
+          ∙ ap (λ z. cond (own q.standing && z) (Some q) None) (u ∙ ap (λ z. all_held p (q.write ∷ z) && match fs z) r)
           ∙ by_record d true (Some q) e f
 
     -- what came out is what the world's work comes to
@@ -195,7 +191,7 @@ module _ (i : Inner) (l : ℕ) (m : left (length (notes i.run).commands) (held i
           }
 
     -- A SKIP by a record: the line has made no act
-    module _ (q : Record) (found : Some q ≡ record_for w l) (few : length q.reads ≤ 16) where
+    module _ (q : Record) (found : Some q ≡ record_for w l) (us : List Use) (are_reads : us ≡ q.reads) (few : length us ≤ 16) where
       is_fresh : fresh l (held i.entries) ≡ true
       is_fresh = by (fresh l (held i.entries)) _ (found ∙ record_is q.command)
         where
@@ -203,21 +199,21 @@ module _ (i : Inner) (l : ℕ) (m : left (length (notes i.run).commands) (held i
           by true o k = refl
           by false o k = let z : ◌≡◌ {A = ℕ} 0 1 = cc in absurd (omega arith)
 
-      fits : made l (held i.entries) + (length q.reads + 1) ≤ 17
+      fits : made l (held i.entries) + (length us + 1) ≤ 17
       fits = let z = fresh_none l (held i.entries) is_fresh in omega arith
 
-      pub skip_room : Kept i → length (held i.entries) + length q.reads < room i.entries
-      skip_room kept = omega (arith, rooms kept (length q.reads + 1) fits)
+      pub skip_room : Kept i → length (held i.entries) + length us < room i.entries
+      skip_room kept = omega (arith, rooms kept (length us + 1) fits)
 
-      module _ (y : Option Stop) (s : State) (skipped : stopping y s ≡ skip l q.reads q.write (state w)) where
+      module _ (y : Option Stop) (s : State) (skipped : stopping y s ≡ skip l us q.write (state w)) where
         pub skip_works : stopping y s ≡ work w l
-        skip_works = skipped ∙ ap (λ o. work_by o (notes i.run).commands l (state w)) found
+        skip_works = skipped ∙ ap (λ z. skip l z q.write (state w)) are_reads ∙ ap (λ o. work_by o (notes i.run).commands l (state w)) found
 
         pub skip_leaves : Grown l (held i.entries) s.entries
         skip_leaves =
-            let same : (reached (skip l q.reads q.write (state w))).entries ≡ s.entries = ap (λ o. (reached o).entries) (sym skipped) ∙ ap (λ z. z.entries) (reached_is y s) in
+            let same : (reached (skip l us q.write (state w))).entries ≡ s.entries = ap (λ o. (reached o).entries) (sym skipped) ∙ ap (λ z. z.entries) (reached_is y s) in
             let z = fits in
-            rw same at (skip_grows l q.reads q.write (held i.entries) (state w) (only_same l (held i.entries)) not_ended (omega arith))
+            rw same at (skip_grows l us q.write (held i.entries) (state w) (only_same l (held i.entries)) not_ended (omega arith))
 
         -- what a skip leaves, once the line is turned
         pub after_skip : Kept i → (j : Inner) → Turned y s j → LeftBy y s j

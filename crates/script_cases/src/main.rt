@@ -100,9 +100,11 @@ fn print_repeated(
 ) -> io::Result<()> {
     let mut text = ArrayVec::<u8, ROOM>::new();
     for bytes in iter::once(first).chain(iter::repeat_n(again, times)) {
-        // Kept: what does not fit ends the text, and is no error.
-        if text.try_extend_from_slice(bytes).is_err() {
-            break;
+        for b in bytes {
+            // Kept: what does not fit ends the text, and is no error.
+            if text.try_push(*b).is_err() {
+                break;
+            }
         }
     }
     print!(rt; "{name}")?;

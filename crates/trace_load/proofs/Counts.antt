@@ -1,5 +1,5 @@
 -- How many places the records of a lawful trace need: one for each command that the book does not have.
-use Rattle.std.proofs.Common.{◌≡◌, ℕ, zero, suc, ◌+◌, ◌-◌, ◌≤◌, Bool, true, false, cond, not, ◌&&◌, ◌||◌, eqb, leb, List, [], ◌∷◌, map, length, take, Ok, Err, sym, refl, ap, ◌∙◌, inl, inr, arith}
+use Rattle.std.proofs.Common.{◌≡◌, ℕ, ◌+◌, ◌-◌, ◌≤◌, Bool, true, false, cond, not, ◌&&◌, ◌||◌, eqb, leb, List, [], ◌∷◌, map, length, take, Err, sym, refl, ap, ◌∙◌, inl, inr, arith}
 use Rattle.std.proofs.lemmas.List.{length-map, length-take}
 use Rattle.std.proofs.lemmas.Bool.{cond-false, and_parts, or_parts, not-true, le-leb, lt-leb, cases_lt}
 use Rattle.std.proofs.lemmas.List.Sums.{sum_by-cons}
@@ -13,10 +13,8 @@ use Rattle.model.specs.declared.command.Command.{Command}
 use Rattle.model.specs.declared.record.Record as Code
 use Rattle.model.specs.declared.refusal.Refusal.TheVariants.{NoRoomToLoad}
 use Rattle.model.proofs.Keys.{same_is}
-use Rattle.trace.specs.Format.{Before, start, noted, raised, push, content_ok, files_ok, known_command, record_ok, lawful}
-use Rattle.trace.specs.Told.{again, coming}
-use Rattle.trace.specs.declared.records.Records.{Records}
-use Rattle.trace.specs.Reads.{Reading, begun, readable, each, after}
+use Rattle.trace.specs.Format.{Before, start, noted, push, content_ok, files_ok, known_command, record_ok, lawful}
+use Rattle.trace.specs.Reads.{each, after}
 use Rattle.trace_load.specs.Takes.{fresh, hints_told, hints_after}
 
 abbrev known : Command → List Record → Bool
@@ -102,12 +100,10 @@ module _ (xs : List Content) (p : Pool) (t : Traced) (list : List Code.Record) (
   all = hints xs p t.records (map said list)
 
   -- the places that are needed are those that are free, or more
-  pub test_is : (need free : ℕ) → need ≡ fresh (map said list) t.records → free ≡ places - length list → leb need free ≡ leb (length all) places
-  test_is need free e f =
+  pub test_is : (free : ℕ) → free ≡ places - length list → leb (fresh (map said list) t.records) free ≡ leb (length all) places
+  test_is free f =
       let l = length-map list said in
-      ap (λ n. leb n free) e
-      ∙ ap (leb (fresh (map said list) t.records)) (f ∙ ap (λ n. places - n) (sym l))
-      ∙ fits_is xs p t (map said list) places ok (omega arith)
+      ap (leb (fresh (map said list) t.records)) (f ∙ ap (λ n. places - n) (sym l)) ∙ fits_is xs p t (map said list) places ok (omega arith)
 
   pub refused_is : leb (length all) places ≡ false → (Err NoRoomToLoad ≡ hints_told all places) × (map said list ≡ hints_after all places (map said list))
   refused_is e = (sym (cond-false (leb (length all) places) _ _ e), sym (cond-false (leb (length all) places) _ _ e))
@@ -117,15 +113,3 @@ module _ (xs : List Content) (p : Pool) (t : Traced) (list : List Code.Record) (
 
 pub held_within : {X : Type 0} (n : ℕ) (xs : List X) → length (take n xs) ≤ length xs
 held_within n xs = omega (arith, length-take n xs)
-
--- no more records come than are left
-readable_few : {S X : Type 0} (p : S → List ℕ → Reading X) (next : S → X → S) (n : ℕ) (s : S) (bs : List ℕ) → length (readable p next n s bs) ≤ n
-readable_few p next zero s bs = omega arith
-readable_few p next (suc n) s bs = by (p s bs) (λ x cs. readable_few p next n (next s x) cs)
-  where
-    by : (r : Reading _) → ((x : _) (cs : List ℕ) → length (readable p next n (next s x) cs) ≤ n) → length (begun r (λ x cs. readable p next n (next s x) cs)) ≤ suc n
-    by (Ok r) h = let l = h r.value r.rest in omega arith
-    by (Err e) h = omega arith
-
-pub coming_few : (r : Records) → length (coming r) ≤ r.left
-coming_few r = readable_few (again r.contents) raised r.left r.high r.rest.now

@@ -1,4 +1,4 @@
-ghost use Rattle.std.specs.Prelude.{◌≡◌, ◌-◌, ◌≤◌, true, [], map, length, take};
+ghost use Rattle.std.specs.Prelude.{◌≡◌, ◌-◌, ◌≤◌, true, [], map, length, take, nat_lt};
 ghost use Rattle.lists.specs.Held.{held, room};
 ghost use Rattle.model.specs.Records.{said};
 ghost use Rattle.model.specs.Book.{hint as hint_in};
@@ -87,13 +87,15 @@ fn take_all(book: &mut Lent<Record>, pool: &Pool, contents: &[&[u8]], records: R
     }
 }
 
-/// How many places records need that are to come: one for each whose command is not in the list.
-fn places_for(list: &[Record], records: Records) -> usize
-    ensures { result ≡ fresh (map said list.now) (coming records.entry) }
+/// More of the records that are to come than so many need a place: those whose command is not in the list. It stops
+/// at the first for which no place is left.
+fn exceeds(list: &[Record], records: Records, free: usize) -> bool
+    ensures { result ≡ nat_lt free (fresh (map said list.now) (coming records.entry)) }
 {
     records
         .filter(|rec| !has_command(list, rec.command))
-        .count()
+        .nth(free)
+        .is_some()
 }
 
 /// Takes the records of a checked file into a book as hints, with the numbers that their contents have in the pool.
@@ -106,7 +108,7 @@ pub fn take_hints(book: &mut Lent<Record>, pool: &Pool, trace: &Trace) -> Result
     ensures room { room book.new ≡ room book.old }
 {
     let free = book.room().saturating_sub(book.len());
-    if places_for(book.as_slice(), trace.records()) > free {
+    if exceeds(book.as_slice(), trace.records(), free) {
         return Err(Refusal::NoRoomToLoad);
     }
     take_all(book, pool, trace.contents(), trace.records());

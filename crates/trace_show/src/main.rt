@@ -21,20 +21,16 @@ fn show_command(rt: &HostRuntime, command: Command) -> io::Result<()> {
     Ok(())
 }
 
-fn show_use(rt: &HostRuntime, word: &str, used: Use) -> io::Result<()> {
-    let Use { file, number } = used;
-    print!(rt; "{word}{file:02}:{number}")
-}
-
 fn show_record(rt: &HostRuntime, record: &Record) -> io::Result<()> {
     print!(rt; "record ")?;
     show_command(rt, record.command)?;
     print!(rt; " reads")?;
     for read in record.reads() {
-        show_use(rt, " ", *read)?;
+        let Use { file, number } = *read;
+        print!(rt; " {file:02}:{number}")?;
     }
-    show_use(rt, " writes ", record.write)?;
-    println!(rt;)
+    let Use { file, number } = record.write;
+    println!(rt; " writes {file:02}:{number}")
 }
 
 fn show_contents(rt: &HostRuntime, contents: &[&[u8]]) -> io::Result<()> {

@@ -26,7 +26,7 @@ impl<'a> Book<'a> {
     }
 
     /// How many records it may hold.
-    pub(crate) fn places(&self) -> usize
+    pub fn places(&self) -> usize
         ensures { result ≡ places self.now }
     {
         self.list.room()
@@ -40,7 +40,7 @@ impl<'a> Book<'a> {
     }
 
     /// The record of a command.
-    pub(crate) fn find(&self, command: Command) -> Option<Record>
+    pub fn find(&self, command: Command) -> Option<Record>
         ensures { option_map said result ≡ record_of command (records self.now) }
     {
         record_of(self.list.as_slice(), command)

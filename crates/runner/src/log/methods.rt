@@ -53,7 +53,7 @@ impl<'a> Log<'a> {
 
     // Kept: a run may have no stop; as an error it is told by the call that meets it.
     /// The stop of the run, if it met one.
-    pub(crate) fn stop(&self) -> Option<Stop>
+    pub fn stop(&self) -> Option<Stop>
         ensures { result ≡ (notes_of self.now).stop }
     {
         self.inner.run.stop
@@ -67,14 +67,14 @@ impl<'a> Log<'a> {
     }
 
     /// How many entries it can hold.
-    pub(crate) fn places(&self) -> usize
+    pub fn places(&self) -> usize
         ensures { result ≡ log_places self.now }
     {
         self.inner.entries.room()
     }
 
     /// The lines that have not ended.
-    pub(crate) fn left(&self) -> LineSet
+    pub fn left(&self) -> LineSet
         ensures { (k : ℕ) → has result k ≡ left (length (notes_of self.now).commands) (entries_of self.now) k }
     {
         let run = &self.inner.run;

@@ -58,7 +58,7 @@ impl<'a> Log<'a> {
         if !is_own(record.standing) {
             return None;
         }
-        if !can_skip(&record, files, pool) {
+        if !can_skip(record.reads(), record.write, files, pool) {
             return None;
         }
         Some(record)
@@ -89,7 +89,14 @@ impl<'a> Log<'a> {
                 stop,
             };
         };
-        let stop = skip(line, &record, files, &mut self.inner.entries).err();
+        let stop = skip(
+            line,
+            record.reads(),
+            record.write,
+            files,
+            &mut self.inner.entries,
+        )
+        .err();
         self.inner.turn(line, stop, pool);
         Stepped {
             line,

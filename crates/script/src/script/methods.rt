@@ -28,9 +28,17 @@ impl<'t> Script<'t> {
         ensures value { answered result self.new ≡ reading text.now }
         ensures emptied { OnErr result (meaning self.new ≡ nothing) }
     {
-        self.tables = Tables::new();
-        self.tables = read(text)?;
-        Ok(())
+        // Kept: no question mark, since a refusal empties the script, too; to empty it first costs as much again.
+        match read(text) {
+            Ok(tables) => {
+                self.tables = tables;
+                Ok(())
+            }
+            Err(refused) => {
+                self.tables = Tables::new();
+                Err(refused)
+            }
+        }
     }
 
     // Kept: by the rules a label has one byte at least, and an empty one says that there is none, as in a report.

@@ -6,10 +6,10 @@ use Rattle.pool.specs.Contents.{meant}
 use Rattle.engine.proofs.Owns.{own_state}
 use Rattle.engine.proofs.line.line_state.Goals as goal
 
-pub returns-then-list_own : goal.returns-then-list_own
-returns-then-list_own c =
+pub returns-in-Listed : goal.returns-in-Listed
+returns-in-Listed c =
     let k = want c.args.command in
     let p = meant c.args.pool.now in
     c.state_of.ensures
-    ∙ ap (line_state k c.args.line p) (c.as_slice-entries.ensures ∙ c.if-list_own.ensures refl)
+    ∙ ap (line_state k c.args.line p) (c.as_slice-entries.ensures ∙ c.in-Listed.ensures.listed refl)
     ∙ own_state c.args.line c.args.entries.now k p

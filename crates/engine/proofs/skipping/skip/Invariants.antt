@@ -8,7 +8,7 @@ use Rattle.engine.proofs.skipping.skip.Given as goal
 abbrev pub invariant-loop-act : goal.invariant-loop-act
 invariant-loop-act g l =
     ((p : Pool) →
-    skip l.line (drop l.act-index l.reads) l.rec.write (record { files = g.F.FileStore.map l.files; pool = p; entries = held l.entries })
-    ≡ skip l.line l.reads l.rec.write (record { files = g.F.FileStore.map l.files; pool = p; entries = held l.initial.entries }))
+    skip l.line (drop l.act-index l.reads) l.write (record { files = g.F.FileStore.map l.files; pool = p; entries = held l.entries })
+    ≡ skip l.line l.reads l.write (record { files = g.F.FileStore.map l.files; pool = p; entries = held l.initial.entries }))
     × (length (held l.entries) ≡ length (held l.initial.entries) + l.act-index)
     × (room l.entries ≡ room l.initial.entries)

@@ -20,14 +20,14 @@ returns-in_default g c =
 pub returns-then-not-is_own : goal.returns-then-not-is_own
 returns-then-not-is_own g c =
     by_tests c.args.self.now.inner c.args.line c.requires (g.F.FileStore.map c.args.files.now) (meant c.args.pool.now) (records c.args.book.now) (places c.args.book.now) (always c.args.self.now) _
-    _ (said c.in-Some.record) false _ c.if-not-is_waiting.ensures c.in-Some.ensures c.if-not-is_own.ensures refl
+    _ (said c.in-Some.record) _ false _ refl c.if-not-is_waiting.ensures c.in-Some.ensures c.if-not-is_own.ensures refl
 
 pub returns-then-not-can_skip : goal.returns-then-not-can_skip
 returns-then-not-can_skip g c =
     by_tests c.args.self.now.inner c.args.line c.requires (g.F.FileStore.map c.args.files.now) (meant c.args.pool.now) (records c.args.book.now) (places c.args.book.now) (always c.args.self.now) _
-    _ (said c.in-Some.record) true false c.if-not-is_waiting.ensures c.in-Some.ensures c.if-not-is_own.ensures c.if-not-can_skip.ensures
+    _ (said c.in-Some.record) c.reads.result.now true false c.reads.ensures.value c.if-not-is_waiting.ensures c.in-Some.ensures c.if-not-is_own.ensures c.if-not-can_skip.ensures
 
 pub returns : goal.returns
 returns g c =
     by_tests c.args.self.now.inner c.args.line c.requires (g.F.FileStore.map c.args.files.now) (meant c.args.pool.now) (records c.args.book.now) (places c.args.book.now) (always c.args.self.now) _
-    _ (said c.in-Some.record) true true c.if-not-is_waiting.ensures c.in-Some.ensures c.if-not-is_own.ensures c.if-not-can_skip.ensures
+    _ (said c.in-Some.record) c.reads.result.now true true c.reads.ensures.value c.if-not-is_waiting.ensures c.in-Some.ensures c.if-not-is_own.ensures c.if-not-can_skip.ensures

@@ -7,7 +7,7 @@ use Rattle.model.specs.Step.{skipping}
 use Rattle.pool.specs.Contents.{meant}
 use Rattle.runner.specs.Views.{records, places}
 use Rattle.runner.proofs.Always.{always}
-use Rattle.runner.proofs.Works.{as_stopping, act_room, skip_room, said_few, after_act, after_skip}
+use Rattle.runner.proofs.Works.{as_stopping, act_room, skip_room, after_act, after_skip}
 use Rattle.runner.proofs.log.Log.work.Goals as goal
 
 pub act-requires : goal.act-requires
@@ -16,7 +16,7 @@ act-requires g c = act_room c.args.self.now.inner c.args.line c.requires.left (a
 pub skip-requires : goal.skip-requires
 skip-requires g c =
     skip_room c.args.self.now.inner c.args.line c.requires.left (g.F.FileStore.map c.args.files.now) (meant c.args.pool.now) (records c.args.book.now) (places c.args.book.now)
-    (said c.in-Some.record) c.in-Some.ensures (said_few c.in-Some.record) (always c.args.self.now)
+    (said c.in-Some.record) c.in-Some.ensures c.reads.result.now c.reads.ensures.value c.reads.ensures.few (always c.args.self.now)
 
 pub invariant_of-self : goal.invariant_of-self
 invariant_of-self g c =
@@ -43,7 +43,7 @@ invariant_of-self-2 g c =
     let s = state (g.F.FileStore.map c.skip.new.files) c.args.pool.now c.skip.new.entries in
     let t = c.turn-2.ensures in
     let left =
-    after_skip c.args.self.now.inner c.args.line c.requires.left _ _ (records c.args.book.now) (places c.args.book.now) (said c.in-Some.record) c.in-Some.ensures (said_few c.in-Some.record) _ s
+    after_skip c.args.self.now.inner c.args.line c.requires.left _ _ (records c.args.book.now) (places c.args.book.now) (said c.in-Some.record) c.in-Some.ensures c.reads.result.now c.reads.ensures.value c.reads.ensures.few _ s
     (as_stopping _ _ s c.err-stop-2.ensures.value (c.skip.ensures.outcome (meant c.args.pool.now))) (always c.args.self.now) c.turn-2.new.self
     (record { entries = ap held t.entries; rooms = ap room t.entries ∙ c.skip.ensures.room; lines = t.lines; opened = t.opened ∙ c.requires.opened; noted = t.notes s.files }) in
     record { roomy = left.kept.roomy; inside = left.kept.inside; few = left.kept.few; follows = left.kept.follows }
@@ -52,6 +52,6 @@ pub returns-clause-world : goal.returns-clause-world
 returns-clause-world g c =
     let s = state (g.F.FileStore.map c.skip.new.files) c.args.pool.now c.skip.new.entries in
     let t = c.turn-2.ensures in
-    (after_skip c.args.self.now.inner c.args.line c.requires.left _ _ (records c.args.book.now) (places c.args.book.now) (said c.in-Some.record) c.in-Some.ensures (said_few c.in-Some.record) _ s
+    (after_skip c.args.self.now.inner c.args.line c.requires.left _ _ (records c.args.book.now) (places c.args.book.now) (said c.in-Some.record) c.in-Some.ensures c.reads.result.now c.reads.ensures.value c.reads.ensures.few _ s
     (as_stopping _ _ s c.err-stop-2.ensures.value (c.skip.ensures.outcome (meant c.args.pool.now))) (always c.args.self.now) c.turn-2.new.self
     (record { entries = ap held t.entries; rooms = ap room t.entries ∙ c.skip.ensures.room; lines = t.lines; opened = t.opened ∙ c.requires.opened; noted = t.notes s.files })).world

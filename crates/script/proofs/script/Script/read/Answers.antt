@@ -7,10 +7,10 @@ use Rattle.script.specs.Sound.{Sound}
 
 pub invariant_of-self : goal.invariant_of-self
 invariant_of-self c =
-    let s = subst Sound (sym c.new-self.ensures) sound_nothing in
+    let s = c.in-Ok.ensures.sound in
     record { short = s.short; apart = s.apart; starts = starts_fit _ s; acts = acts_fit _ s }
 
-pub invariant_of-self-2 : goal.invariant_of-self-2
-invariant_of-self-2 c =
-    let s = c.in_ok-self.ensures.sound in
+pub invariant_of-self-in-Err : goal.invariant_of-self-in-Err
+invariant_of-self-in-Err c =
+    let s = subst Sound (sym c.new-self.ensures) sound_nothing in
     record { short = s.short; apart = s.apart; starts = starts_fit _ s; acts = acts_fit _ s }
