@@ -101,7 +101,7 @@ fn print_repeated(
     let mut text = ArrayVec::<u8, ROOM>::new();
     for bytes in iter::once(first).chain(iter::repeat_n(again, times)) {
         for b in bytes {
-            // Kept: what does not fit ends the text, and is no error.
+            // Kept: what does not fit is left out, and is no error.
             if text.try_push(*b).is_err() {
                 break;
             }
