@@ -20,8 +20,8 @@ summed sum bytes =
     let rest = drop (length bytes / 8 * 8) bytes in
     fold mixed (fold mixed_eight sum eights) rest
 
--- The sum of a string: of its length and its bytes, where they are more than 64 of the first 32 and the last 32 alone.
--- Strings that differ only between these have one bucket.
+-- The sum of a string: of its length and all its bytes, or, where these are more than 64, of its length, the first 32
+-- and the last 32. Strings of one length that differ only between these ends have one bucket.
 abbrev pub sum_of : List ℕ → ℕ
 sum_of bytes =
     let n = length bytes in

@@ -1,9 +1,9 @@
 mod Adds
+mod Commands
 mod Cuts
 mod Facts
 mod Labels
 mod Places
 mod Sounds
 mod Splits
-mod TextLines
 mod Turns

@@ -24,14 +24,18 @@ pub fn next_word<'t>(text: &'t [u8], from: usize) -> Option<Word<'t>>
     Some(Word { bytes, start })
 }
 
-/// Whether each byte is a space or one of a word.
+/// Whether each byte is a space or one of a word. It goes on after one that is not, so that many are tested at a time.
 pub(crate) fn is_plain(line: &[u8]) -> bool
     ensures { result ≡ list_all plain line.now }
 {
-    line.iter().all(|b| matches!(*b, b' '..=b'~'))
+    line.iter()
+        .fold(true, |plain, b| plain & matches!(*b, b' '..=b'~'))
 }
 
-/// The words of a text line, the first six if it has more: no line that is taken has more than five.
+// Never inlined: in the large function that calls it the search's counters would lie in memory and not in registers,
+// and each byte of a word would cost more.
+/// The words after a text line's first one, the first six if there are more: no verb takes more than four.
+#[inline(never)]
 pub(crate) fn words_of<'t>(line: &'t [u8]) -> ArrayVec<&'t [u8], 6>
     ensures { map (λ x. x.now) result.items ≡ take 6 (words line.now) }
 {

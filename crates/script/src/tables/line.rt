@@ -1,11 +1,11 @@
-ghost use Rattle.std.specs.Prelude.{◌≡◌, map};
-ghost use Rattle.script.specs.Text.{file_line, have_line, command_line, words_line, line_adds};
+ghost use Rattle.std.specs.Prelude.{◌≡◌, Some, map};
+ghost use Rattle.script.specs.Text.{file_line, have_line, command_line, verb_line, line_adds, words};
 ghost use Rattle.script.specs.Views.{held, changed};
 
 use crate::label::{file_of, files_of};
 use crate::tables::Tables;
 use crate::verb::{Verb, verb_of};
-use crate::words::{is_plain, words_of};
+use crate::words::{is_plain, next_word, words_of};
 use model::{Command, Kind, Refusal, file_number};
 
 impl<'t> Tables<'t> {
@@ -44,18 +44,15 @@ impl<'t> Tables<'t> {
         self.add_command(Command { kind, a, b, c, d })
     }
 
-    /// Adds what the words of a text line say.
-    fn words_line(&mut self, words: &[&'t [u8]]) -> Result<(), Refusal>
-        ensures { changed result self.new ≡ words_line (held self.old) (map (λ x. x.now) words.now) }
+    /// Adds what a verb and the words after it say. Those of a comment are not looked for.
+    fn verb_line(&mut self, verb: Verb, rest: &'t [u8]) -> Result<(), Refusal>
+        ensures { changed result self.new ≡ verb_line (held self.old) (Some verb) (words rest.now) }
     {
-        let [first, args @ ..] = words else {
-            return Ok(());
-        };
-        match verb_of(first).ok_or(Refusal::BadTextLine)? {
+        match verb {
             Verb::Comment => Ok(()),
-            Verb::File => self.file_line(args),
-            Verb::Have => self.have_line(args),
-            Verb::Command(kind) => self.command_line(kind, args),
+            Verb::File => self.file_line(&words_of(rest)),
+            Verb::Have => self.have_line(&words_of(rest)),
+            Verb::Command(kind) => self.command_line(kind, &words_of(rest)),
         }
     }
 
@@ -66,6 +63,10 @@ impl<'t> Tables<'t> {
         if !is_plain(line) {
             return Err(Refusal::BadTextLine);
         }
-        self.words_line(&words_of(line))
+        let Some(first) = next_word(line, 0) else {
+            return Ok(());
+        };
+        let verb = verb_of(first.bytes).ok_or(Refusal::BadTextLine)?;
+        self.verb_line(verb, &line[first.start + first.bytes.len()..])
     }
 }

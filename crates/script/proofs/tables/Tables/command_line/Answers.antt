@@ -1,6 +1,6 @@
 -- A command and its labels.
 use Rattle.std.proofs.Common.{◌≡◌, Some, ◌∙◌, rules, arith}
-use Rattle.script.proofs.TextLines.{with_files}
+use Rattle.script.proofs.Commands.{with_files}
 use Rattle.script.proofs.tables.Tables.command_line.Goals as goal
 use Rattle.script.specs.Views.{held}
 
