@@ -34,7 +34,7 @@ pub(crate) fn is_plain(line: &[u8]) -> bool
 
 // Never inlined: in the large function that calls it the search's counters would lie in memory and not in registers,
 // and each byte of a word would cost more.
-/// The words after a text line's first one, the first six if there are more: no verb takes more than four.
+/// The words of a part of a text line, the first six if there are more: no verb takes more than four.
 #[inline(never)]
 pub(crate) fn words_of<'t>(line: &'t [u8]) -> ArrayVec<&'t [u8], 6>
     ensures { map (λ x. x.now) result.items ≡ take 6 (words line.now) }

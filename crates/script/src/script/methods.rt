@@ -28,14 +28,14 @@ impl<'t> Script<'t> {
         ensures value { answered result self.new ≡ reading text.now }
         ensures emptied { OnErr result (meaning self.new ≡ nothing) }
     {
-        // Kept: no question mark, since a refusal empties the script, too; to empty it first costs as much again.
+        // Kept: no question mark, since a refusal has to empty the script; a text that is taken replaces it whole.
         match read(text) {
             Ok(tables) => {
                 self.tables = tables;
                 Ok(())
             }
             Err(refused) => {
-                self.tables = Tables::new();
+                self.tables.clear();
                 Err(refused)
             }
         }

@@ -20,6 +20,15 @@ impl<'t> Tables<'t> {
         }
     }
 
+    /// Empties the tables in place: new ones would have all their blanks made.
+    pub(crate) fn clear(&mut self)
+        ensures { held self.new ≡ nothing }
+    {
+        self.labels = [&[]; 64];
+        self.haves.clear();
+        self.commands.clear();
+    }
+
     /// Gives a file its label.
     pub(crate) fn add_label(&mut self, number: u8, label: &'t [u8]) -> Result<(), Refusal>
         requires { number < 64 }

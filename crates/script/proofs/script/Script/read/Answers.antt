@@ -12,5 +12,5 @@ invariant_of-self c =
 
 pub invariant_of-self-in-Err : goal.invariant_of-self-in-Err
 invariant_of-self-in-Err c =
-    let s = subst Sound (sym c.new-self.ensures) sound_nothing in
+    let s = subst Sound (sym c.clear.ensures) sound_nothing in
     record { short = s.short; apart = s.apart; starts = starts_fit _ s; acts = acts_fit _ s }
