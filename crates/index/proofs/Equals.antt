@@ -7,18 +7,18 @@ use Rattle.std.specs.Str.{bytes_eq}
 use Rattle.index.proofs.Newests.{none_passes, passes}
 use Rattle.index.specs.Equal.{equal}
 use Rattle.index.specs.Newest.{newest}
-use Rattle.index.specs.Sums.{bucket_of}
 
-module _ (x : List ℕ) (xs : List (List ℕ)) (bs : List ℕ) (b : ℕ) (each : bs ≡ map bucket_of xs) (its : b ≡ bucket_of x) where
+-- whatever tells the bucket of a string
+module _ (bucket : List ℕ → ℕ) (x : List ℕ) (xs : List (List ℕ)) (bs : List ℕ) (b : ℕ) (each : bs ≡ map bucket xs) (its : b ≡ bucket x) where
   at_number : (k : ℕ) → equal x xs (suc k) ≡ bytes_eq x (get_or xs k [])
   at_number k = let same : suc k - 1 ≡ k = omega arith in ap (λ i. bytes_eq x (get_or xs i [])) same
 
   as_many : length bs ≡ length xs
-  as_many = ap length each ∙ length-map xs bucket_of
+  as_many = ap length each ∙ length-map xs bucket
 
   same_bucket : (k : ℕ) → k < length xs → bytes_eq x (get_or xs k []) ≡ true → get_or bs k 0 ≡ b
   same_bucket k l t =
-      ap (λ ds. get_or ds k 0) each ∙ get_or-map bucket_of xs k [] 0 l ∙ ap bucket_of (sym ((bytes_eq-Decides x (get_or xs k [])).0 t)) ∙ sym its
+      ap (λ ds. get_or ds k 0) each ∙ get_or-map bucket xs k [] 0 l ∙ ap bucket (sym ((bytes_eq-Decides x (get_or xs k [])).0 t)) ∙ sym its
 
   pub none_equal : newest (equal x xs) bs b (length bs) ≡ 0 → (k : ℕ) → k < length xs → bytes_eq x (get_or xs k []) ≡ false
   none_equal e k l =
@@ -33,9 +33,9 @@ module _ (x : List ℕ) (xs : List (List ℕ)) (bs : List ℕ) (b : ℕ) (each :
       (omega (arith, as_many, p.0), sym (at_number m) ∙ p.1)
 
   -- the buckets with the one of this string, where there is room
-  pub added : length xs < 1024 → cond (ltb (length bs) 1024) (bs ++ b ∷ []) bs ≡ map bucket_of (xs ++ x ∷ [])
+  pub added : length xs < 1024 → cond (ltb (length bs) 1024) (bs ++ b ∷ []) bs ≡ map bucket (xs ++ x ∷ [])
   added room =
       cond-true (ltb (length bs) 1024) (bs ++ b ∷ []) bs (lt-ltb (length bs) 1024 (omega (arith, as_many)))
       ∙ ap (λ ds. ds ++ b ∷ []) each
-      ∙ ap (λ d. map bucket_of xs ++ d ∷ []) its
-      ∙ sym (map_push bucket_of xs x)
+      ∙ ap (λ d. map bucket xs ++ d ∷ []) its
+      ∙ sym (map_push bucket xs x)

@@ -20,13 +20,21 @@ summed sum bytes =
     let rest = drop (length bytes / 8 * 8) bytes in
     fold mixed (fold mixed_eight sum eights) rest
 
--- The sum of a string: of its length and all its bytes, or, where these are more than 64, of its length, the first 32
--- and the last 32. Strings of one length that differ only between these ends have one bucket.
+-- the sum of a string: of its length and all its bytes
 abbrev pub sum_of : List ℕ → ℕ
-sum_of bytes =
+sum_of bytes = summed (length bytes) bytes
+
+-- The sum of a string by its ends: of its length and all its bytes, or, where these are more than 64, of its length,
+-- the first 32 and the last 32. Strings of one length that differ only between these ends have one bucket.
+abbrev pub sum_of_ends : List ℕ → ℕ
+sum_of_ends bytes =
     let n = length bytes in
     cond (nat_le n 64) (summed n bytes) (summed (summed n (take 32 bytes)) (drop (n - 32) bytes))
 
 -- the highest ten bits of the sum
 unfoldable pub bucket_of : List ℕ → ℕ
 bucket_of bytes = sum_of bytes / 2 ^ 54
+
+-- those of the sum by the ends
+unfoldable pub bucket_of_ends : List ℕ → ℕ
+bucket_of_ends bytes = sum_of_ends bytes / 2 ^ 54

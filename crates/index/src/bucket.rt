@@ -1,7 +1,8 @@
 ghost use Rattle.std.specs.Prelude.{◌≡◌, ◌<◌};
-ghost use Rattle.index.specs.Sums.{mixed, summed, bucket_of};
+ghost use Rattle.index.specs.Sums.{mixed, summed, bucket_of, bucket_of_ends};
 
-/// One of the 1,024 buckets.
+/// One of the 1,024 buckets. Those of one index are told all by `of`, or all by `of_ends`: equal strings have equal
+/// buckets by each, but a string of more than 64 bytes may have another by the one than by the other.
 #[derive(Clone, Copy)]
 pub struct Bucket {
     pub(crate) at: u16,
@@ -9,10 +10,20 @@ pub struct Bucket {
 }
 
 impl Bucket {
-    /// The bucket of a string of bytes. Of more than 64 bytes only both ends are summed up, so that what it takes does
-    /// not grow with the string.
+    /// The bucket of a string of bytes, by all of them.
     pub fn of(bytes: &[u8]) -> Bucket
         ensures { result.at ≡ bucket_of bytes.now }
+    {
+        let all = summed(bytes.len() as u64, bytes);
+        Bucket {
+            at: (all >> 54) as u16,
+        }
+    }
+
+    /// The bucket of a string of bytes, by its ends: of more than 64 bytes only these are summed up, so that what it
+    /// takes does not grow with the string.
+    pub fn of_ends(bytes: &[u8]) -> Bucket
+        ensures { result.at ≡ bucket_of_ends bytes.now }
     {
         let len = bytes.len();
         let sum = if len <= 64 {

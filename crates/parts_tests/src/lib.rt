@@ -1,6 +1,8 @@
-//! The list, the pool and the file stores at the edges of their rules.
+//! The list, the buckets, the pool and the file stores at the edges of their rules.
 #![tactic(auto)]
 
+#[cfg(test)]
+mod buckets;
 #[cfg(test)]
 mod contents;
 #[cfg(test)]

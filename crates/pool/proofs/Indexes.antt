@@ -7,7 +7,7 @@ use Rattle.std.specs.Str.{bytes_eq}
 use Rattle.index.proofs.Equals.{none_equal, one_equal}
 use Rattle.index.specs.Equal.{equal}
 use Rattle.index.specs.Newest.{newest}
-use Rattle.index.specs.Sums.{bucket_of}
+use Rattle.index.specs.Sums.{bucket_of_ends}
 use Rattle.model.specs.Contents.{find}
 use Rattle.pool.specs.Sound.{Apart}
 use Rattle.pool.proofs.Finds.{find_at, find_none}
@@ -21,11 +21,11 @@ module _ (x : List ℕ) (xs : List (List ℕ)) (apart : Apart xs) where
         | inr f ↦ f
       ]
 
-  module _ (bs : List ℕ) (b : ℕ) (each : bs ≡ map bucket_of xs) (its : b ≡ bucket_of x) where
+  module _ (bs : List ℕ) (b : ℕ) (each : bs ≡ map bucket_of_ends xs) (its : b ≡ bucket_of_ends x) where
     newest_is : (m : ℕ) → newest (equal x xs) bs b (length bs) ≡ m → m ≡ find x xs
-    newest_is zero e = find_none x xs (none_equal x xs bs b each its e)
+    newest_is zero e = find_none x xs (none_equal bucket_of_ends x xs bs b each its e)
     newest_is (suc m) e =
-        let p = one_equal x xs bs b each its m e in
+        let p = one_equal bucket_of_ends x xs bs b each its m e in
         let more : suc m ≡ m + 1 = omega arith in
         more ∙ find_at x xs m p.0 p.1 (not_before m p.0 p.1)
 
@@ -33,5 +33,5 @@ module _ (x : List ℕ) (xs : List (List ℕ)) (apart : Apart xs) where
     found_newest = newest_is (newest (equal x xs) bs b (length bs)) refl
 
 -- the first contents
-pub indexed_front : (bs : List ℕ) (xs ys : List (List ℕ)) (k : ℕ) → bs ≡ map bucket_of xs → take k xs ≡ ys → take k bs ≡ map bucket_of ys
-indexed_front bs xs ys k e f = ap (take k) e ∙ take-map bucket_of k xs ∙ ap (map bucket_of) f
+pub indexed_front : (bs : List ℕ) (xs ys : List (List ℕ)) (k : ℕ) → bs ≡ map bucket_of_ends xs → take k xs ≡ ys → take k bs ≡ map bucket_of_ends ys
+indexed_front bs xs ys k e f = ap (take k) e ∙ take-map bucket_of_ends k xs ∙ ap (map bucket_of_ends) f

@@ -1,5 +1,5 @@
 ghost use Rattle.std.specs.Prelude.{◌≡◌, ◌≤◌, map, min, length, take};
-ghost use Rattle.index.specs.Sums.{bucket_of};
+ghost use Rattle.index.specs.Sums.{bucket_of_ends};
 ghost use Rattle.pool.specs.Pieces.{pieces, total, Packed, Short};
 ghost use Rattle.pool.specs.Sound.{Apart};
 
@@ -27,5 +27,5 @@ pub struct Pool<'a> {
     ghost filled: { used ≡ total (take count places.now) },
     ghost short: { Short places.now count },
     ghost apart: { Apart (pieces bytes.now count places.now) },
-    ghost indexed: { index ≡ map bucket_of (pieces bytes.now count places.now) },
+    ghost indexed: { index ≡ map bucket_of_ends (pieces bytes.now count places.now) },
 }

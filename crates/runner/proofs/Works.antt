@@ -1,12 +1,13 @@
 -- What a working step leaves: the record that it finds, the room that it has, the facts of a log, and the world.
-use Rattle.std.proofs.Common.{◌≡◌, ℕ, ◌+◌, ◌<◌, ◌≤◌, Bool, true, false, cond, ◌&&◌, List, ◌∷◌, length, get_or, set, Some, None, Option, Ok, Err, Result, sym, refl, ap, ◌∙◌, inl, inr, arith}
-use Rattle.std.proofs.lemmas.List.{get_or_default, get_or-set_same, get_or-set_other}
+use Rattle.std.proofs.Common.{◌≡◌, ℕ, ◌+◌, ◌<◌, ◌≤◌, Bool, true, false, cond, ◌&&◌, List, ◌∷◌, length, min, get_or, set, Some, None, Option, Ok, Err, Result, sym, refl, ap, ◌∙◌, inl, inr, arith}
+use Rattle.std.proofs.lemmas.List.{get_or_default, get_or-set_same, get_or-set_other, length-take}
 use Rattle.std.proofs.lemmas.Bool.{cases_eq}
 use Rattle.std.specs.Result.{result_err}
 use Rattle.lists.specs.Held.{held, room}
 use Rattle.engine.specs.States.{outcome}
 use Rattle.model.specs.declared.command.Command.{Command}
 use Rattle.model.specs.declared.command.Kind.TheVariants.{Copy}
+use Rattle.model.specs.declared.record.Record as Code
 use Rattle.model.specs.declared.record.Use.{Use}
 use Rattle.model.specs.declared.run.Entry.{Entry}
 use Rattle.model.specs.declared.run.LineState.{LineState}
@@ -17,7 +18,7 @@ use Rattle.model.specs.Book.{own, record_of}
 use Rattle.model.specs.Commands.{Want, want, wants}
 use Rattle.model.specs.Contents.{Content, Pool}
 use Rattle.model.specs.Hazards.{fresh, ended}
-use Rattle.model.specs.Records.{Record}
+use Rattle.model.specs.Records.{Record, said}
 use Rattle.model.specs.Step.{left, match, all_held, usable, skips, skip, record_for, work_by, work, noting, moved, after_work}
 use Rattle.model.specs.World.{World, state}
 use Rattle.model.proofs.Sound.{left_parts}
@@ -46,6 +47,10 @@ reached_is (Some y) s = refl
 stop_is : (y : Option Stop) (s : State) → stop_of (stopping y s) ≡ y
 stop_is None s = refl
 stop_is (Some y) s = refl
+
+-- a record of the code has at most 16 reads
+pub said_few : (x : Code.Record) → length (said x).reads ≤ 16
+said_few x = omega (arith, length-take (min x.count 16) x.reads)
 
 -- A LINE THAT IS LEFT
 module _ (i : Inner) (l : ℕ) (m : left (length (notes i.run).commands) (held i.entries) l ≡ true) where

@@ -1,5 +1,5 @@
 ghost use Rattle.std.specs.Prelude.{◌≡◌, map};
-ghost use Rattle.index.specs.Sums.{bucket_of};
+ghost use Rattle.index.specs.Sums.{bucket_of_ends};
 ghost use Rattle.index.specs.Equal.{equal};
 ghost use Rattle.model.specs.Contents.{mem};
 
@@ -24,8 +24,8 @@ impl Sought for Same<'_, '_> {
 
 /// A content, which has this bucket, is among earlier ones, whose buckets the index holds.
 pub fn known_content(earlier: &[&[u8]], index: &Index, bucket: Bucket, content: &[u8]) -> bool
-    requires index { index.now ≡ map bucket_of (map (λ x. x.now) earlier.now) }
-    requires bucket { bucket.at ≡ bucket_of content.now }
+    requires index { index.now ≡ map bucket_of_ends (map (λ x. x.now) earlier.now) }
+    requires bucket { bucket.at ≡ bucket_of_ends content.now }
     ensures { result ≡ mem content.now (map (λ x. x.now) earlier.now) }
 {
     let same = Same { earlier, content };

@@ -2,7 +2,7 @@ ghost use Rattle.std.specs.Prelude.{◌≡◌, ◌+◌, ◌-◌, ◌≤◌, min,
 ghost use Rattle.std.specs.Option.{option_map};
 ghost use Rattle.std.specs.Str.{bytes_eq};
 ghost use Rattle.index.specs.Newest.{numbered};
-ghost use Rattle.index.specs.Sums.{bucket_of};
+ghost use Rattle.index.specs.Sums.{bucket_of_ends};
 ghost use Rattle.model.specs.Contents.{content as content_of, count as count_of, used as used_by, told, holds, known, find, mem, fits, given, put, cut};
 ghost use Rattle.pool.specs.Contents.{meant, shown, part, number_told, number_found};
 ghost use Rattle.pool.specs.Sound.{Sound};
@@ -91,7 +91,7 @@ impl<'a> Pool<'a> {
         ensures number { number_found result ≡ find content.now (meant self.now).contents }
         ensures found { is_some result ≡ nat_lt 0 (find content.now (meant self.now).contents) }
     {
-        self.number_of(Bucket::of(content), content)
+        self.number_of(Bucket::of_ends(content), content)
             .map(|number| Found { number })
     }
 
@@ -102,7 +102,7 @@ impl<'a> Pool<'a> {
         ensures taken { is_ok result ≡ nat_lt 0 (given (meant self.old) content.now) }
         ensures after { meant self.new ≡ put (meant self.old) content.now }
     {
-        let bucket = Bucket::of(content);
+        let bucket = Bucket::of_ends(content);
         if let Some(number) = self.number_of(bucket, content) {
             return Ok(Put { number });
         }
@@ -127,7 +127,7 @@ impl<'a> Pool<'a> {
 
     /// The number of the content that equals this one, which has this bucket, if there is one.
     fn number_of(&self, bucket: Bucket, content: &[u8]) -> Option<u16>
-        requires { bucket.at ≡ bucket_of content.now }
+        requires { bucket.at ≡ bucket_of_ends content.now }
         ensures { result ≡ numbered (find content.now (meant self.now).contents) }
     {
         let same = Same {
@@ -158,7 +158,7 @@ impl<'a> Pool<'a> {
 
     /// Appends a content that has this bucket, that it does not hold and has room for.
     fn append(&mut self, bucket: Bucket, content: &[u8])
-        requires bucket { bucket.at ≡ bucket_of content.now }
+        requires bucket { bucket.at ≡ bucket_of_ends content.now }
         requires fresh { mem content.now (meant self.old).contents ≡ false }
         requires fits { fits (meant self.old) content.now ≡ true }
         ensures after { meant self.new ≡ put (meant self.old) content.now }

@@ -1,5 +1,5 @@
 ghost use Rattle.std.specs.Prelude.{◌≡◌, ◌<◌, [], ◌∷◌, ◌++◌, map, length, IfOk};
-ghost use Rattle.index.specs.Sums.{bucket_of};
+ghost use Rattle.index.specs.Sums.{bucket_of_ends};
 ghost use Rattle.trace.specs.Format.{a_content, the_contents};
 ghost use Rattle.trace.specs.Told.{left, told, listed};
 
@@ -12,14 +12,14 @@ use model::Refusal;
 impl<'t> Input<'t> {
     /// A content that differs from the earlier ones. The index holds the buckets of those, and then this one's too.
     fn content(&mut self, earlier: &[&'t [u8]], index: &mut Index) -> Result<&'t [u8], Refusal>
-        requires index { index.old ≡ map bucket_of (map (λ x. x.now) earlier.now) }
+        requires index { index.old ≡ map bucket_of_ends (map (λ x. x.now) earlier.now) }
         requires room { length earlier.now < 1024 }
         ensures value { told (λ x. x.now) result self.new ≡ a_content (map (λ x. x.now) earlier.now) (left self.old) }
-        ensures index { IfOk result (λ x. index.new ≡ map bucket_of (map (λ x. x.now) earlier.now ++ x.now ∷ [])) }
+        ensures index { IfOk result (λ x. index.new ≡ map bucket_of_ends (map (λ x. x.now) earlier.now ++ x.now ∷ [])) }
     {
         let n = self.count(4096)?;
         let piece = self.piece(n)?;
-        let bucket = Bucket::of(piece);
+        let bucket = Bucket::of_ends(piece);
         if known_content(earlier, index, bucket, piece) {
             return Err(Refusal::TraceRule);
         }

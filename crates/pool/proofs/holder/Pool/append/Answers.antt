@@ -2,7 +2,7 @@
 use Rattle.std.proofs.Common.{◌+◌, ◌-◌, ◌<◌, map, length, sym, ap, subst, ◌∙◌, arith, rules}
 use borrow.Rule.Slice.PartMut.{take_put}
 use Rattle.index.proofs.Equals.{added}
-use Rattle.index.specs.Sums.{bucket_of}
+use Rattle.index.specs.Sums.{bucket_of_ends}
 use Rattle.pool.specs.Contents.{meant, held}
 use Rattle.pool.specs.Sound.{Apart}
 use Rattle.pool.proofs.Adds.{short_added, pieces_kept, pieces_added, copied_piece, packed_added, filled_added, apart_added}
@@ -25,7 +25,7 @@ invariant_of-self c =
       filled = p.filled;
       short = p.short;
       apart = subst Apart (sym same) p.apart;
-      indexed = p.indexed ∙ ap (map bucket_of) (sym same);
+      indexed = p.indexed ∙ ap (map bucket_of_ends) (sym same);
     }
 
 pub invariant_of-self-2 : goal.invariant_of-self-2
@@ -47,8 +47,8 @@ invariant_of-self-2 c =
       short = short_added p.used (length x) p.count p.places.now place p.short f.short;
       apart = apart_added (held p) _ x c.requires.fresh more p.apart;
       indexed =
-          c.push.ensures ∙ added x (held p) p.index c.args.bucket.at p.indexed c.requires.bucket (omega (arith, count_held p, f.place))
-          ∙ ap (map bucket_of) (sym more);
+          c.push.ensures ∙ added bucket_of_ends x (held p) p.index c.args.bucket.at p.indexed c.requires.bucket (omega (arith, count_held p, f.place))
+          ∙ ap (map bucket_of_ends) (sym more);
     }
 
 pub returns-clause-after : goal.returns-clause-after

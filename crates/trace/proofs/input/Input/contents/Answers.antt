@@ -1,7 +1,7 @@
 -- The loop over the contents gives the section.
 use Rattle.std.proofs.Common.{◌-◌, [], ◌∷◌, ◌++◌, map, ◌∙◌, ap, sym, arith}
 use Rattle.std.proofs.lemmas.List.{length-set, length-take}
-use Rattle.index.specs.Sums.{bucket_of}
+use Rattle.index.specs.Sums.{bucket_of_ends}
 use Rattle.trace.proofs.Breaks.{break_told}
 use Rattle.trace.proofs.Pieces.{rest_more, rest_stop, section_begins, exact, firsts_more}
 use Rattle.trace.proofs.input.Input.contents.Goals as goal
@@ -23,7 +23,7 @@ content-requires c =
     let l = c.loop-i in
     let few = c.in_ok-count.ensures.within in
     record {
-      index = l.invariant.indexed ∙ ap (map bucket_of) (sym (exact l.list l.i));
+      index = l.invariant.indexed ∙ ap (map bucket_of_ends) (sym (exact l.list l.i));
       room = omega (arith, length-take (l.i - 0) l.list);
     }
 
@@ -40,5 +40,5 @@ loop-i-preserved c =
       long = length-set l.list l.i c.in_ok-list.field-0 ∙ long;
       indexed =
           c.in_ok-list.ensures.index
-          ∙ ap (map bucket_of) (ap (λ es. es ++ c.in_ok-list.field-0.now ∷ []) (exact l.list l.i) ∙ sym (firsts_more l.list l.i c.in_ok-list.field-0 (omega arith)));
+          ∙ ap (map bucket_of_ends) (ap (λ es. es ++ c.in_ok-list.field-0.now ∷ []) (exact l.list l.i) ∙ sym (firsts_more l.list l.i c.in_ok-list.field-0 (omega arith)));
     }
